@@ -1,0 +1,19 @@
+//! The error of a call that wanted memory and was refused it.
+
+use std::alloc::{AllocError, AllocFailed};
+
+/// Memory was refused. It is the one error that no clause gives a cause (docs/PROGRAM.md).
+#[derive(Clone, Copy, Debug, PartialEq, Eq)]
+pub struct OutOfMemory;
+
+impl From<AllocError> for OutOfMemory {
+    fn from(_: AllocError) -> Self {
+        OutOfMemory
+    }
+}
+
+impl<T: Drop> From<AllocFailed<T>> for OutOfMemory {
+    fn from(_: AllocFailed<T>) -> Self {
+        OutOfMemory
+    }
+}
