@@ -1,0 +1,6 @@
+pub mod Input
+pub mod Naive
+pub mod Fit
+pub mod Placement
+pub mod Assembly
+pub mod Output

@@ -1,0 +1,7 @@
+//! The program without its edge: from bytes to assembly, with a status for each way that it can end.
+//!
+//! `model` has the data of a description and a unit. The definitions that the top call cites stand in specs/: `Input` (the text of
+//! a description and a unit), `Naive`, `Fit`, `Placement`, `Assembly`, `Output`.
+#![tactic(auto)]
+
+pub mod model;
