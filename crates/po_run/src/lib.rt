@@ -5,3 +5,7 @@
 #![tactic(auto)]
 
 pub mod model;
+mod notes;
+mod status;
+
+pub use status::Status;
