@@ -4,8 +4,11 @@
 //! a description and a unit), `Naive`, `Fit`, `Placement`, `Assembly`, `Output`.
 #![tactic(auto)]
 
+mod compile;
 pub mod model;
 mod notes;
+mod serial;
 mod status;
 
+pub use serial::po_serial;
 pub use status::Status;
