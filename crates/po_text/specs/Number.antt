@@ -1,12 +1,12 @@
 -- The number that a word is: an optional minus sign, and 1 to 10 decimal digits.
-use Rattle.std.specs.Prelude.{ℕ, ◌+◌, ◌-◌, ◌*◌, ℤ, pos, neg_ℤ, Bool, ◌==◌, ◌&&◌, nat_le, List, [], ◌∷◌, length, Option, Some, None, option_map, if◌then◌else◌}
+use Rattle.std.specs.Prelude.{ℕ, ◌+◌, ◌-◌, ◌*◌, ◌^◌, ℤ, pos, neg_ℤ, Bool, ◌==◌, ◌&&◌, nat_le, List, [], ◌∷◌, length, Option, Some, None, option_map, if◌then◌else◌}
 use Rattle.std.specs.Char.{is_ascii_digit}
 use Rattle.std.specs.List.{list_all}
 
--- the value of digits that stand behind others of this value
-abbrev pub value_behind : ℕ → List ℕ → ℕ
-value_behind value [] = value
-value_behind value (digit ∷ digits) = value_behind (value * 10 + (digit - 48)) digits
+-- the value of digits: each counts as often as ten to the number of digits behind it
+abbrev pub digits_value : List ℕ → ℕ
+digits_value [] = 0
+digits_value (digit ∷ digits) = (digit - 48) * 10 ^ length digits + digits_value digits
 
 -- 1 to 10 decimal digits
 abbrev pub are_digits : List ℕ → Bool
@@ -14,7 +14,7 @@ are_digits word = nat_le 1 (length word) && (nat_le (length word) 10 && list_all
 
 -- the number that is written without a sign
 abbrev pub natural_of : List ℕ → Option ℕ
-natural_of word = if are_digits word then Some (value_behind 0 word) else None
+natural_of word = if are_digits word then Some (digits_value word) else None
 
 -- the number that a word is, if it is one
 abbrev pub number_of : List ℕ → Option ℤ

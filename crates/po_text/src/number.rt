@@ -3,7 +3,7 @@
 ghost use Rattle.std.specs.Prelude.{◌≡◌, ◌≤◌, ◌<◌, ◌^◌, length, IfSome, IsTrue};
 ghost use Rattle.std.specs.Char.{is_ascii_digit};
 ghost use Rattle.std.specs.List.{list_all};
-ghost use Rattle.po_text.specs.Number.{value_behind, are_digits, natural_of, number_of};
+ghost use Rattle.po_text.specs.Number.{digits_value, are_digits, natural_of, number_of};
 
 /// The number that a word is: an optional `-` and 1 to 10 decimal digits. Any other word is none. Leading zeros add
 /// nothing, and `-0` is 0. Takes no memory.
@@ -53,7 +53,7 @@ fn all_digits(word: &[u8]) -> bool
 fn value_of(digits: &[u8]) -> u64
     requires digits { IsTrue (list_all is_ascii_digit digits.now) }
     requires short { length digits.now ≤ 10 }
-    ensures value { result ≡ value_behind 0 digits.now }
+    ensures value { result ≡ digits_value digits.now }
     ensures bound { result < 10 ^ 10 }
 {
     let mut value = 0;

@@ -1,7 +1,7 @@
 //! A line cut into its words, which stand between spaces and tabs.
 
 ghost use Rattle.std.specs.Prelude.{◌≡◌, ◌+◌, ◌≤◌, ◌<◌, ◌++◌, drop, length, IfOk};
-ghost use Rattle.po_text.specs.Words.{is_blank as is_blank_byte, words_from, words_of};
+ghost use Rattle.po_text.specs.Words.{is_blank as is_blank_byte, words_from, words_of, AreWordsFrom};
 ghost use Rattle.po_text.specs.WordEnds.{word_between, before_blank};
 
 use crate::{OutOfMemory, Span};
@@ -10,7 +10,8 @@ use std::alloc::Global;
 /// The words of a line in their order: what stands between spaces and tabs.
 
 pub fn split_line(alloc: Global, line: &[u8]) -> Result<Vec<Span>, OutOfMemory>
-    ensures { IfOk result (λ words. words.items ≡ words_of line.now) }
+    ensures value { IfOk result (λ words. words.items ≡ words_of line.now) }
+    ensures words { IfOk result (λ words. AreWordsFrom 0 line.now words.items) }
 {
     let mut words = Vec::new(alloc);
     let mut at = 0;
