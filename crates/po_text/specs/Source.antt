@@ -26,6 +26,12 @@ ReadCause before now (Err ReadFault) = (before ≤ now) × Rose before now
 ReadCause before now (Err (TooLong line column)) = now ≡ before
 ReadCause before now (Err OutOfMemory) = now ≡ before
 
+-- what came before a refusal: behind a fault no more than the limit, and for want of memory any number of bytes
+abbrev pub OnBreakOff : {T : Type 0} → Result T ReadRefusal → ℕ → Option (List ℕ) → Option (List ℕ) → Type 0
+OnBreakOff (Err ReadFault) limit old new = (bytes : List ℕ) × (length bytes ≤ limit) × (old ≡ before_known bytes new)
+OnBreakOff (Err OutOfMemory) limit old new = (bytes : List ℕ) × (old ≡ before_known bytes new)
+OnBreakOff result limit old new = Unit {0}
+
 -- more than so many bytes came, and this is the place of the first one past them
 abbrev pub OnTooLong : {T : Type 0} → Result T ReadRefusal → ℕ → Option (List ℕ) → Option (List ℕ) → Type 0
 OnTooLong (Err (TooLong line column)) limit old new = (bytes : List ℕ) × (limit < length bytes) × (old ≡ before_known bytes new) × ((line, column) ≡ place_behind (take limit bytes))

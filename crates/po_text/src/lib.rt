@@ -5,12 +5,16 @@
 
 mod fault;
 mod memory;
+mod number;
 mod sink;
 mod source;
 mod standard;
+mod words;
 
 pub use fault::{Kind, OutOfMemory, ReadRefusal, Span, Spot, TextRefusal, WriteFault};
 pub use memory::{MemSink, MemSource};
+pub use number::read_number;
 pub use sink::{Put, Sink, write_all};
 pub use source::{Got, Source, read_all};
 pub use standard::{StdSink, StdSource};
+pub use words::split_line;

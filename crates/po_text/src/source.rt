@@ -1,17 +1,22 @@
+//! Where bytes come from. A source says by `left` which bytes are still to come, where it tells, and by `faults` how
+//! often it has failed. No call changes whether `left` is told, and the count rises at a fault and at nothing else.
+
 ghost use Rattle.std.specs.Prelude.{◌≡◌, ℕ, ◌+◌, ◌-◌, ◌<◌, ◌≤◌, ◌^◌, [], List, Option, length, take, IfOk, IfErr, IfSome};
 ghost use Rattle.po_text.specs.Causes.{before_known};
-ghost use Rattle.po_text.specs.Source.{Reads, GotCause, ReadCause, OnTooLong};
+ghost use Rattle.po_text.specs.Source.{Reads, GotCause, ReadCause, OnBreakOff, OnTooLong};
 ghost use Rattle.po_text.specs.Place.{place_behind, place_from};
 
 use crate::ReadRefusal;
 use std::alloc::Global;
 
-/// What one read gave.
+/// What a read gave.
 #[derive(Clone, Copy, Debug, PartialEq, Eq)]
 pub enum Got {
-    /// So many bytes, at least one.
+    /// So many bytes, from 1 to the buffer's length.
     Count(usize),
+    /// No byte is left.
     End,
+    /// The source failed, and gave nothing.
     Failed,
 }
 
@@ -20,9 +25,12 @@ pub trait Source {
     /// The bytes still to come, where they are told.
     ghost left: { Self → Option (List ℕ) };
 
-    /// How often the source has failed.
+    /// How often the source has failed. The count never falls.
     ghost faults: { Self → ℕ };
 
+    /// Hands over the next bytes, into a buffer that isn't empty. `Count(n)`: the first n bytes of the buffer are the
+    /// next n of `left`, which then is the rest. `End`: `left` is empty, where it is told. `Failed`: `faults` rose, or
+    /// stands at 2^64-1, and `left` is as before. `Count` and `End` leave `faults` as it was.
     fn read(&mut self, buf: &mut [u8]) -> Got
         requires { 0 < length buf.old }
         ensures bytes { Reads (left self.old) (left self.new) result buf.new }
@@ -30,7 +38,10 @@ pub trait Source {
 }
 
 #[tactic(auto, using(crate::proofs::Known::before_two))]
-/// All bytes up to the end, of which there may be `limit`.
+/// All bytes up to the end, of which there may be `limit`. `ReadFault` comes exactly where the source's faults rose,
+/// and `TooLong` exactly where more than `limit` bytes came, with the line and the column, both counted from 1, of the
+/// first byte past them; a line ends at its line feed. Each turn takes at least one byte, so there are at most
+/// `limit` + 2 calls of the source.
 pub fn read_all<S: Source>(
     alloc: Global,
     source: &mut S,
@@ -41,6 +52,7 @@ pub fn read_all<S: Source>(
         × IfSome (S.left source.new) (λ rest. rest ≡ [])
         × (length bytes.items ≤ limit)) }
     ensures too_long { OnTooLong result limit (S.left source.old) (S.left source.new) }
+    ensures broken_off { OnBreakOff result limit (S.left source.old) (S.left source.new) }
     ensures cause { ReadCause (S.faults source.old) (S.faults source.new) result }
 {
     let mut bytes = Vec::new(alloc);
