@@ -4,4 +4,5 @@
 //! a description and a unit), `Naive`, `Fit`, `Placement`, `Assembly`, `Output`.
 #![tactic(auto)]
 
+mod fit;
 pub mod model;
