@@ -4,5 +4,6 @@
 //! a description and a unit), `Naive`, `Fit`, `Placement`, `Assembly`, `Output`.
 #![tactic(auto)]
 
+mod emit;
 mod fit;
 pub mod model;
