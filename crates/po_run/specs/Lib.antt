@@ -5,3 +5,4 @@ pub mod Placement
 pub mod Assembly
 pub mod Output
 pub mod Found
+pub mod Stack

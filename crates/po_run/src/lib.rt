@@ -5,5 +5,6 @@
 #![tactic(auto)]
 
 mod emit;
+mod expand;
 mod fit;
 pub mod model;
