@@ -133,6 +133,7 @@ impl Expansion {
     }
 }
 
+#[tactic(auto, using(crate::proofs::Stack::body_has_values))]
 /// The naive code of a unit's operations (docs/LANGUAGE.md, "Stack code").
 pub fn expand(alloc: Global, ops: &[Op]) -> Result<Vec<Instr>, OutOfMemory>
     requires body { IsTrue (is_body 0 ops.now) }
