@@ -5,7 +5,12 @@ use Rattle.std.proofs.lemmas.Bool.{leb-true, le-leb, eqb-true}
 use Rattle.po_run.specs.declared.model.Op.{Op}
 use Rattle.po_run.specs.declared.model.Op.TheVariants as op
 use Rattle.po_run.specs.Input.{is_body}
-use Rattle.po_run.specs.Stack.{has_values}
+use Rattle.po_run.specs.Stack.{taken, put}
+
+-- each of these operations finds its values, where so many are there at first
+abbrev pub has_values : ℕ → List Op → Bool
+has_values depth [] = true
+has_values depth (o ∷ ops) = nat_le (taken o) depth && has_values (depth - taken o + put o) ops
 
 both : (a b : Bool) → a && b ≡ true → (a ≡ true) × (b ≡ true)
 both true b e = (refl, e)

@@ -107,12 +107,7 @@ fn push_filled(
 }
 
 /// Writes the line of an instruction: two spaces, the filled template and a line feed. Nothing where no entry fits it.
-fn push_line(
-    m: &Machine,
-    regs: &[u32],
-    instr: &Instr,
-    out: &mut Vec<u8>,
-) -> Result<(), OutOfMemory>
+fn push_line(m: &Machine, regs: &[u32], instr: &Instr, out: &mut Vec<u8>) -> Result<(), OutOfMemory>
     ensures { OnOk result (out.new.items ≡ out.old.items ++ line_of m.now (λ v. slice_index regs.now v) (first_fit m.now.entries (instr_of instr.now))) }
 {
     if let Some((entry, operands)) = fit(m.entries.as_slice(), instr) {
@@ -141,3 +136,6 @@ pub fn push_unit(
     }
     Ok(())
 }
+
+#[cfg(test)]
+mod tests;

@@ -52,11 +52,7 @@ fn single(alloc: Global, transfer: Transfer) -> Result<Instr, OutOfMemory>
 }
 
 /// Adds an instruction of one transfer.
-fn push_single(
-    alloc: Global,
-    transfer: Transfer,
-    code: &mut Vec<Instr>,
-) -> Result<(), OutOfMemory>
+fn push_single(alloc: Global, transfer: Transfer, code: &mut Vec<Instr>) -> Result<(), OutOfMemory>
     ensures code { OnOk result (instrs_of code.new.items ≡ instrs_of code.old.items ++ (move_of transfer ∷ []) ∷ []) }
     ensures size { OnOk result (length code.new.items ≡ length code.old.items + 1) }
 {
@@ -101,7 +97,7 @@ impl Expansion {
         requires values { taken op ≤ length self.old.stack.items }
         ensures code { OnOk result ((ops : List Op) →
             instrs_of self.old.code.items ++ naive_from self.old.next (reverse self.old.stack.items) (op ∷ ops)
-                ≡ instrs_of self.new.code.items ++ naive_from self.new.next (reverse self.new.stack.items) ops) }
+            ≡ instrs_of self.new.code.items ++ naive_from self.new.next (reverse self.new.stack.items) ops) }
         ensures depth { OnOk result (length self.new.stack.items ≡ length self.old.stack.items - taken op + put op) }
         ensures next { OnOk result (self.new.next ≤ self.old.next + 1) }
         ensures size { OnOk result (length self.new.code.items ≤ length self.old.code.items + 2) }
@@ -133,8 +129,8 @@ impl Expansion {
     }
 }
 
-#[tactic(auto, using(crate::proofs::Stack::body_has_values))]
 /// The naive code of a unit's operations (docs/LANGUAGE.md, "Stack code").
+#[tactic(auto, using(crate::proofs::Stack::body_has_values))]
 pub fn expand(alloc: Global, ops: &[Op]) -> Result<Vec<Instr>, OutOfMemory>
     requires body { IsTrue (is_body 0 ops.now) }
     requires fits { length ops.now ≤ 65536 }

@@ -2,7 +2,7 @@ use Rattle.std.proofs.Common.{◌≡◌, ◌++◌, ◌≤◌, ◌*◌, drop, len
 use Rattle.std.specs.Prelude.{reverse}
 use Rattle.po_term.specs.Moves.{instrs_of}
 use Rattle.po_run.specs.Naive.{naive_from, naive}
-use Rattle.po_run.specs.Stack.{has_values}
+use Rattle.po_run.proofs.Stack.{has_values}
 use Rattle.po_run.proofs.expand.expand.Given as goal
 
 -- the code so far, and then the rest's
