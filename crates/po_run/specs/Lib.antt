@@ -6,3 +6,5 @@ pub mod Assembly
 pub mod Output
 pub mod Notes
 pub mod Statuses
+pub mod Found
+pub mod Stack

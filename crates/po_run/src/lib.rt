@@ -5,6 +5,9 @@
 #![tactic(auto)]
 
 mod compile;
+mod emit;
+mod expand;
+mod fit;
 pub mod model;
 mod notes;
 mod serial;
