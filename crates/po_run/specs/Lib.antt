@@ -4,3 +4,4 @@ pub mod Fit
 pub mod Placement
 pub mod Assembly
 pub mod Output
+pub mod Reading

@@ -4,4 +4,9 @@
 //! a description and a unit), `Naive`, `Fit`, `Placement`, `Assembly`, `Output`.
 #![tactic(auto)]
 
+mod limits;
+mod lines;
 pub mod model;
+mod read;
+mod read_error;
+mod template;
