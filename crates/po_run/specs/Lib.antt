@@ -8,3 +8,4 @@ pub mod Notes
 pub mod Statuses
 pub mod Found
 pub mod Stack
+pub mod Reading

@@ -15,3 +15,8 @@ mod status;
 
 pub use serial::po_serial;
 pub use status::Status;
+mod limits;
+mod lines;
+mod read;
+mod read_error;
+mod template;
