@@ -14,7 +14,19 @@ use Rattle.po_run.specs.declared.status.Status.TheVariants as status
 use Rattle.po_run.specs.declared.compile.Refusal.{Refusal}
 use Rattle.po_run.specs.declared.compile.Refusal.TheVariants as refusal
 use Rattle.po_run.specs.Input.{IsInput}
+use Rattle.po_run.specs.Naive.{naive}
+use Rattle.po_run.specs.Fit.{first_unfit}
+use Rattle.po_run.specs.Placement.{intervals, IsCrowded}
+use Rattle.po_run.specs.Assembly.{assembly}
 use Rattle.po_run.specs.Output.{IsOutside, IsOutput, IsUnfit, IsShort, IsRecognised, HasRoom}
+
+-- what compiling a description and a unit gives
+abbrev pub Assembles : Machine → Unit → Result (Vec ℕ Global) Refusal → Type 0
+Assembles m u (Ok out) = IsRecognised m u × HasRoom m u × (out.items ≡ assembly m u)
+Assembles m u (Err refusal.Outside) = ⊥
+Assembles m u (Err (refusal.Unfit index)) = first_unfit m.entries (naive u.ops) ≡ Some index
+Assembles m u (Err (refusal.Short point needed)) = IsRecognised m u × IsCrowded (length m.regs) (intervals (naive u.ops)) point needed
+Assembles m u (Err refusal.Memory) = ⊤
 
 -- what compiling a text gives
 abbrev pub Compiles : List ℕ → Result (Vec ℕ Global) Refusal → Type 0
