@@ -2,5 +2,8 @@ pub mod Input
 pub mod Naive
 pub mod Fit
 pub mod Placement
+pub mod Numbered
+pub mod Spans
+pub mod Places
 pub mod Assembly
 pub mod Output
