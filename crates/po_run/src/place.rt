@@ -3,7 +3,7 @@
 //! A span is the interval of the virtual register that has its index in the list: from the point of its write to that of its last
 //! read so far. Instruction p reads at the point 2 * p and writes at 2 * p + 1. Spans are placed in order of start, each in the
 //! lowest machine register whose last span ended before.
-ghost use Rattle.std.specs.Prelude.{◌≡◌, ℕ, ◌+◌, ◌*◌, ◌<◌, ◌≤◌, ◌^◌, ◌++◌, length, IfOk, OnOk, MatchOption, slice_index};
+ghost use Rattle.std.specs.Prelude.{◌≡◌, ℕ, ◌+◌, ◌*◌, ◌<◌, ◌≤◌, ◌^◌, ◌++◌, ◌||◌, length, IfOk, OnOk, MatchOption, slice_index};
 ghost use Rattle.std.specs.List.{list_any};
 ghost use Rattle.po_term.specs.Terms.{tree_of};
 ghost use Rattle.po_term.specs.Moves.{move_of, instr_of, instrs_of};
@@ -67,10 +67,17 @@ fn note_instr(instr: &Instr, point: u32, spans: &mut Vec<Span>) -> Result<(), Ou
     Ok(())
 }
 
+/// Whether an instruction sets a virtual register.
 fn writes_virtual(instr: &Instr) -> bool
-    ensures { result ≡ list_any sets_virtual (instr_of instr.now) }
+    ensures { result ≡ list_any (λ x. sets_virtual (move_of x)) instr.now.xs.items }
 {
-    instr.xs.iter().any(|x| matches!(x, Transfer::Set(Reg::Virt(_), _)))
+    instr.xs.iter().any(|x| is_virtual_set(x))
+}
+
+fn is_virtual_set(transfer: &Transfer) -> bool
+    ensures { result ≡ sets_virtual (move_of transfer.now) }
+{
+    matches!(transfer, Transfer::Set(Reg::Virt(_), _))
 }
 
 fn note_reads(instr: &Instr, point: u32, spans: &mut [Span])
@@ -86,12 +93,19 @@ fn note_transfer(transfer: &Transfer, point: u32, spans: &mut [Span])
 {
     match transfer {
         Transfer::Set(_, t) => note_term(t, point, spans),
-        Transfer::Cc(t, u) | Transfer::Store(t, u) | Transfer::If(Cond::Two(t, u), _, _) => {
-            note_term(t, point, spans);
-            note_term(u, point, spans);
-        }
-        Transfer::If(Cond::Cc, _, _) | Transfer::Goto(_) | Transfer::Call(_, _) | Transfer::Ret => {}
+        Transfer::Cc(t, u) | Transfer::Store(t, u) | Transfer::If(Cond::Two(t, u), _, _) => note_both(t, u, point, spans),
+        Transfer::If(Cond::Cc, _, _) => {}
+        Transfer::Goto(_) => {}
+        Transfer::Call(_, _) => {}
+        Transfer::Ret => {}
     }
+}
+
+fn note_both(t: &Term, u: &Term, point: u32, spans: &mut [Span])
+    ensures { spans.new ≡ marked (λ v. tree_reads v (tree_of t.now) || tree_reads v (tree_of u.now)) point 0 spans.old }
+{
+    note_term(t, point, spans);
+    note_term(u, point, spans);
 }
 
 fn note_term(term: &Term, point: u32, spans: &mut [Span])
@@ -112,8 +126,9 @@ fn note_register(reg: Reg, point: u32, spans: &mut [Span])
     ensures { spans.new ≡ marked (λ v. register_is v reg) point 0 spans.old }
 {
     if let Reg::Virt(number) = reg {
-        if let Some(span) = spans.get_mut(number as usize) {
-            span.finish = point;
+        let index = number as usize;
+        if index < spans.len() {
+            spans[index].finish = point;
         }
     }
 }
