@@ -2,6 +2,9 @@ pub mod Input
 pub mod Naive
 pub mod Fit
 pub mod Placement
+pub mod Numbered
+pub mod Spans
+pub mod Places
 pub mod Assembly
 pub mod Output
 pub mod Notes
