@@ -1,14 +1,16 @@
 -- Spans that are still being read, and the intervals that they become.
-use Rattle.std.proofs.Common.{◌≡◌, ℕ, ◌+◌, ◌*◌, ◌<◌, ◌≤◌, List, [], ◌∷◌, ◌++◌, length, drop, map, refl, sym, ap, ◌∙◌, zero, suc, arith, Bool, true, false, cond, ◌⊎◌, inl, inr, add-zero, append-nil, append_assoc, length-append}
+use Rattle.std.proofs.Common.{◌≡◌, ℕ, ◌+◌, ◌*◌, ◌<◌, ◌≤◌, List, [], ◌∷◌, ◌++◌, length, get_or, drop, map, subst,  refl, sym, ap, ◌∙◌, zero, suc, arith, Bool, true, false, cond, ◌⊎◌, inl, inr, add-zero, append-nil, append_assoc, length-append}
 use Rattle.std.specs.List.{list_any}
 use Rattle.po_term.specs.declared.term.Reg.{Reg}
 use Rattle.po_term.specs.declared.term.Reg.TheVariants as reg
-use Rattle.po_term.specs.Moves.{SetTo}
+use Rattle.po_term.specs.Moves.{SetTo, instr_of, instrs_of}
+use Rattle.po_term.specs.declared.transfer.Instr.{Instr}
 use Rattle.po_run.specs.Naive.{Instruction}
 use Rattle.po_run.specs.Placement.{Interval, written, reads, last_read, interval_of, intervals_from}
 use Rattle.po_run.specs.Numbered.{NumberedFrom}
 use Rattle.po_run.specs.Spans.{numbered, marked, sets_virtual, opened, Rising}
 use Rattle.po_run.specs.declared.place.Span.{Span}
+use Rattle.po_run.proofs.Lists.{next_of, behind_all}
 use Rattle.po_run.proofs.Marks.{length-marked}
 
 -- the intervals of these spans, whose first one is that of register k, once these instructions are read from p on
@@ -74,3 +76,22 @@ rising_from k p m [] n h = tt
 rising_from k p m (i ∷ is) (inl (e, n)) h = rw e (rising_from k (p + 1) m is n (omega arith))
 rising_from k p m (i ∷ is) (inr (e, n)) h =
     rw e (h, read_later k (2 * p + 1) (p + 1) is (omega arith), rising_from (k + 1) (p + 1) (2 * p + 1 + 1) is n (omega arith))
+
+pub spans_next : (xs : List Instr) (p : ℕ) (x : Instr) (ss ts : List Span) (whole : List Interval) → p < length xs → x ≡ get_or xs p x →
+    ts ≡ marked (λ v. reads v (instr_of x)) (2 * p) 0 ss ++ opened (2 * p + 1) (instr_of x) →
+    closed 0 p (instrs_of (drop p xs)) ss ++ intervals_from p (instrs_of (drop p xs)) ≡ whole → NumberedFrom (length ss) (instrs_of (drop p xs)) →
+    (closed 0 (p + 1) (instrs_of (drop (p + 1) xs)) ts ++ intervals_from (p + 1) (instrs_of (drop (p + 1) xs)) ≡ whole) × NumberedFrom (length ts) (instrs_of (drop (p + 1) xs))
+spans_next xs p x ss ts whole h e read closes ordered =
+    let rest : drop p xs ≡ x ∷ drop (p + 1) xs = next_of xs p x h e in
+    let is = instrs_of (drop (p + 1) xs) in
+    let numbers : NumberedFrom (length ss) (instr_of x ∷ is) = subst (λ (ys : List Instr). NumberedFrom (length ss) (instrs_of ys)) rest ordered in
+    let before : closed 0 p (instr_of x ∷ is) ss ++ intervals_from p (instr_of x ∷ is) ≡ whole =
+        subst (λ (ys : List Instr). closed 0 p (instrs_of ys) ss ++ intervals_from p (instrs_of ys) ≡ whole) rest closes in
+    rw read (sym (closes_next p (instr_of x) is ss numbers) ∙ before, numbered_next (2 * p) (2 * p + 1) (instr_of x) is ss numbers)
+
+pub spans_end : (xs : List Instr) (p : ℕ) (ss : List Span) (whole : List Interval) → length xs ≤ p →
+    closed 0 p (instrs_of (drop p xs)) ss ++ intervals_from p (instrs_of (drop p xs)) ≡ whole → numbered 0 ss ≡ whole
+spans_end xs p ss whole h closes =
+    let none : drop p xs ≡ [] = behind_all xs p h in
+    let after : closed 0 p [] ss ++ [] ≡ whole = subst (λ (ys : List Instr). closed 0 p (instrs_of ys) ss ++ intervals_from p (instrs_of ys) ≡ whole) none closes in
+    sym (closed-end 0 p ss) ∙ sym (append-nil (closed 0 p [] ss)) ∙ after

@@ -106,11 +106,17 @@ reaching_set ends r q f small free =
     let plain = rw none at moved in
     omega (arith, plain)
 
+same_suc : (a b : ℕ) → (suc a == suc b) ≡ (a == b)
+same_suc a b = elim (cases_eq a b) [
+    inl e ↦ eq-eqb (suc a) (suc b) (ap suc e) ∙ sym (eq-eqb a b e)
+  | inr n ↦ ne_eqb (suc a) (suc b) (λ e. n (omega (arith, e))) ∙ sym (ne_eqb a b n)
+  ]
+
 machine_next : (regs : List ℕ) (r v : ℕ) → cond (length regs == v) r (get_or regs v 0) ≡ get_or (regs ++ r ∷ []) v 0
 machine_next [] r zero = refl
 machine_next [] r (suc v) = rw (ne_eqb 0 (suc v) (λ e. absurd (omega (arith, e)))) refl
 machine_next (x ∷ xs) r zero = rw (ne_eqb (length (x ∷ xs)) 0 (λ e. absurd (omega (arith, e)))) refl
-machine_next (x ∷ xs) r (suc v) = machine_next xs r v
+machine_next (x ∷ xs) r (suc v) = rw (same_suc (length xs) v) (machine_next xs r v)
 
 total_next : (all left : List Interval) (i : Interval) (js : List Interval) (q : ℕ) → count_at all q ≡ count_at js q + count_at (i ∷ left) q →
     count_at all q ≡ count_at (i ∷ js) q + count_at left q
@@ -131,21 +137,21 @@ past_next n i js ends r now q held early small free upto counted past =
     elim (cases_lt q i.start) [
       inl before ↦
         let none : contains i q ≡ false = contains_later i q before in
-        let same = rw none at one in
+        let same : ◌≡◌ {A = ℕ} (cond (contains i q) 1 0) 0 = rw none refl in
         elim (cases_lt q now) [
-          inl h ↦ let few = past h in omega (arith, same)
-        | inr h ↦ let few = counted h in let most = count_by-le-length (λ (e : ℕ). nat_le q e) ends in omega (arith, same, few, most)
+          inl h ↦ let few = past h in omega (arith, one, same)
+        | inr h ↦ let few = counted h in let most = count_by-le-length (λ (e : ℕ). nat_le q e) ends in omega (arith, one, same, few, most)
         ]
     | inr at ↦
         let here : q ≡ i.start = omega arith in
         let few = counted (omega arith) in
         let more = reaching_set ends r q q small (omega arith) in
         let reached : nat_le q q ≡ true = le-leb q q (omega arith) in
-        let grown = rw reached at more in
+        let grown : ◌≡◌ {A = ℕ} (cond (nat_le q q) 1 0) 1 = rw reached refl in
         let most = count_by-le-length (λ (e : ℕ). nat_le q e) (set ends r q) in
         let long = length-set {A = ℕ} ends r q in
         let at_most : cond (contains i q) 1 0 ≤ 1 = one_at_most (contains i q) in
-        omega (arith, one, few, grown, most, long, at_most)
+        omega (arith, one, few, more, grown, most, long, at_most)
     ]
 
 pub standing_step : (n : ℕ) (all : List Interval) (i : Interval) (left : List Interval) (ends regs : List ℕ) (r : ℕ) → Standing n all (i ∷ left) ends regs →
@@ -192,10 +198,10 @@ standing_crowded n all i left ends regs st busy =
     let full : reaching i.start ends ≡ length ends = reaching_all i.start ends busy in
     let here : contains i i.start ≡ true = contains_from i i.start (omega arith) ∙ le-leb i.start i.finish ordered in
     let one : count_at (i ∷ left) i.start ≡ cond (contains i i.start) 1 0 + count_at left i.start = count-cons (λ (j : Interval). contains j i.start) i left in
-    let single = rw here at one in
+    let single : ◌≡◌ {A = ℕ} (cond (contains i i.start) 1 0) 1 = rw here refl in
     let later : count_at left i.start ≡ 0 = later_none i.start (i.start + 1) left (omega arith) st.rising.2 in
     record {
-      count = omega (arith, st.total i.start, st.counted i.start early, full, single, later, st.held);
+      count = omega (arith, st.total i.start, st.counted i.start early, full, one, single, later, st.held);
       over = omega arith;
       first = λ q h.
         let none : count_at (i ∷ left) q ≡ 0 = later_none q i.start (i ∷ left) h (omega arith, ordered, st.rising.2) in
