@@ -14,17 +14,16 @@ loop-span-init c =
 
 pub returns-in_default : goal.returns-in_default
 returns-in_default c =
-    let a = c.in_default.ensures in
-    crowded_turn c.args.count c.args.spans.now c.loop-span.span-index c.loop-span.ends.items c.loop-span.regs.items _ c.loop-span-test.true c.loop-span.invariant.stands
-    ?
+    let busy = rw c.deref.ensures.value at c.in_default.ensures in
+    crowded_turn c.args.count c.args.spans.now c.loop-span.span-index c.loop-span.ends.items c.loop-span.regs.items _ c.loop-span-test.true c.loop-span.invariant.stands busy
 
 pub loop-span-preserved : goal.loop-span-preserved
 loop-span-preserved c =
-    let a = c.in-Some.ensures in
+    let found = rw c.deref.ensures.value at c.in-Some.ensures in
     record {
       stands = placed_turn c.args.count c.args.spans.now c.loop-span.span-index c.loop-span.ends.items c.loop-span.regs.items c.push.new.self.items _ c.in-Some.free
-          c.loop-span-test.true c.loop-span.invariant.stands c.loop-span.invariant.counted ? ? ? c.in_ok-push.ensures.items;
-      counted = ?;
+          c.loop-span-test.true c.loop-span.invariant.stands c.loop-span.invariant.counted found.0 found.1 found.2 c.in_ok-push.ensures.items;
+      counted = rw (c.in_ok-push.ensures.items, length-append, c.loop-span.invariant.counted) refl;
     }
 
 pub returns : goal.returns
