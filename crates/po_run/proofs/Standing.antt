@@ -69,5 +69,144 @@ standing_begin n is rising = record {
   counted = λ q h. sym (reaching_none q n h);
   past = λ q h. omega arith;
   machines = λ v. sym (get_or_past {X = ℕ} [] v 0 (omega arith));
-  below = ?;
+  below = λ k d l. absurd (omega arith);
 }
+
+-- an interval that starts at or before a point contains it where it doesn't end before
+contains_from : (i : Interval) (q : ℕ) → i.start ≤ q → contains i q ≡ nat_le q i.finish
+contains_from i q h = rw (le-leb i.start q h) refl
+
+contains_later : (i : Interval) (q : ℕ) → q < i.start → contains i q ≡ false
+contains_later i q h = rw (lt-leb i.start q h) refl
+
+or_nothing : (b : Bool) → (b || false) ≡ b
+or_nothing true = refl
+or_nothing false = refl
+
+-- whether a register is taken once one more interval stands
+taken_next : (i : Interval) (done : List Placed) (ends : List ℕ) (r q k : ℕ) → i.start < q → r < length ends → get_or ends r 0 < i.start →
+    is_taken done q k ≡ nat_le q (get_or ends k 0) →
+    ((r == k) && contains i q || is_taken done q k) ≡ nat_le q (get_or (set ends r i.finish) k 0)
+taken_next i done ends r q k later small free before =
+    elim (cases_eq r k) [
+      inl e ↦
+        let at : get_or (set ends r i.finish) k 0 ≡ i.finish = rw (← e) (get_or-set_same {A = ℕ} ends r i.finish 0 small) in
+        let past : nat_le q (get_or ends k 0) ≡ false = lt-leb q (get_or ends k 0) (rw (← e) (omega arith)) in
+        rw (eq-eqb r k e, contains_from i q (omega arith), before, past, at) (or_nothing (nat_le q i.finish))
+    | inr n ↦
+        let at : get_or (set ends r i.finish) k 0 ≡ get_or ends k 0 = get_or-set_other {A = ℕ} ends r k i.finish 0 (λ e. n (sym e)) in
+        rw (ne_eqb r k n, before, at) refl
+    ]
+
+-- how many ends reach a point, once the end of a free register is moved
+reaching_set : (ends : List ℕ) (r q f : ℕ) → r < length ends → get_or ends r 0 < q → reaching q (set ends r f) ≡ cond (nat_le q f) 1 0 + reaching q ends
+reaching_set ends r q f small free =
+    let moved : reaching q (set ends r f) + cond (nat_le q (get_or ends r 0)) 1 0 ≡ reaching q ends + cond (nat_le q f) 1 0 = sum_by-set (λ (e : ℕ). cond (nat_le q e) 1 0) ends r f 0 small in
+    let none : nat_le q (get_or ends r 0) ≡ false = lt-leb q (get_or ends r 0) free in
+    let plain = rw none at moved in
+    omega (arith, plain)
+
+same_suc : (a b : ℕ) → (suc a == suc b) ≡ (a == b)
+same_suc a b = elim (cases_eq a b) [
+    inl e ↦ eq-eqb (suc a) (suc b) (ap suc e) ∙ sym (eq-eqb a b e)
+  | inr n ↦ ne_eqb (suc a) (suc b) (λ e. n (omega (arith, e))) ∙ sym (ne_eqb a b n)
+  ]
+
+machine_next : (regs : List ℕ) (r v : ℕ) → cond (length regs == v) r (get_or regs v 0) ≡ get_or (regs ++ r ∷ []) v 0
+machine_next [] r zero = refl
+machine_next [] r (suc v) = rw (ne_eqb 0 (suc v) (λ e. absurd (omega (arith, e)))) refl
+machine_next (x ∷ xs) r zero = rw (ne_eqb (length (x ∷ xs)) 0 (λ e. absurd (omega (arith, e)))) refl
+machine_next (x ∷ xs) r (suc v) = rw (same_suc (length xs) v) (machine_next xs r v)
+
+total_next : (all left : List Interval) (i : Interval) (js : List Interval) (q : ℕ) → count_at all q ≡ count_at js q + count_at (i ∷ left) q →
+    count_at all q ≡ count_at (i ∷ js) q + count_at left q
+total_next all left i js q h =
+    let a = count-cons (λ (j : Interval). contains j q) i left in
+    let b = count-cons (λ (j : Interval). contains j q) i js in
+    omega (arith, a, b)
+
+one_at_most : (b : Bool) → cond b 1 0 ≤ 1
+one_at_most true = omega arith
+one_at_most false = omega arith
+
+-- the points up to the start of one more interval are uncrowded
+past_next : (n : ℕ) (i : Interval) (js : List Interval) (ends : List ℕ) (r now q : ℕ) → length ends ≡ n → now ≤ i.start → r < length ends → get_or ends r 0 < i.start →
+    q ≤ i.start → (now ≤ q → count_at js q ≡ reaching q ends) → (q < now → count_at js q ≤ n) → count_at (i ∷ js) q ≤ n
+past_next n i js ends r now q held early small free upto counted past =
+    let one = count-cons (λ (j : Interval). contains j q) i js in
+    elim (cases_lt q i.start) [
+      inl before ↦
+        let none : contains i q ≡ false = contains_later i q before in
+        let same : ◌≡◌ {A = ℕ} (cond (contains i q) 1 0) 0 = rw none refl in
+        elim (cases_lt q now) [
+          inl h ↦ let few = past h in omega (arith, one, same)
+        | inr h ↦ let few = counted h in let most = count_by-le-length (λ (e : ℕ). nat_le q e) ends in omega (arith, one, same, few, most)
+        ]
+    | inr at ↦
+        let here : q ≡ i.start = omega arith in
+        let few = counted (omega arith) in
+        let more = reaching_set ends r q q small (omega arith) in
+        let reached : nat_le q q ≡ true = le-leb q q (omega arith) in
+        let grown : ◌≡◌ {A = ℕ} (cond (nat_le q q) 1 0) 1 = rw reached refl in
+        let most = count_by-le-length (λ (e : ℕ). nat_le q e) (set ends r q) in
+        let long = length-set {A = ℕ} ends r q in
+        let at_most : cond (contains i q) 1 0 ≤ 1 = one_at_most (contains i q) in
+        omega (arith, one, few, more, grown, most, long, at_most)
+    ]
+
+pub standing_step : (n : ℕ) (all : List Interval) (i : Interval) (left : List Interval) (ends regs : List ℕ) (r : ℕ) → Standing n all (i ∷ left) ends regs →
+    i.register ≡ length regs → r < length ends → get_or ends r 0 < i.start → ((k : ℕ) → k < r → i.start ≤ get_or ends k 0) →
+    Standing n all left (set ends r i.finish) (regs ++ r ∷ [])
+standing_step n all i left ends regs r st number small free busy =
+    let early : st.now ≤ i.start = st.rising.0 in
+    let held : length ends ≡ n = st.held in
+    let open_r : is_taken st.done i.start r ≡ false = st.taken i.start r early (omega arith) ∙ lt-leb i.start (get_or ends r 0) free in
+    let lowest : lowest_from st.done i.start 0 n ≡ r = lowest_is st.done i.start 0 n r (omega arith) (omega arith) open_r
+        (λ k a b. st.taken i.start k early (omega arith) ∙ le-leb i.start (get_or ends k 0) (busy k b)) in
+    record {
+      done = record { interval = i; machine = r } ∷ st.done;
+      now = i.start + 1;
+      held = length-set {A = ℕ} ends r i.finish ∙ held;
+      follows = rw lowest at st.follows;
+      total = λ q. total_next all left i (map (λ (d : Placed). d.interval) st.done) q (st.total q);
+      rising = st.rising.2;
+      taken = λ q k h l. taken_next i st.done ends r q k (omega arith) small free (st.taken q k (omega arith) l);
+      counted = λ q h. count-cons (λ (j : Interval). contains j q) i (map (λ (d : Placed). d.interval) st.done) ∙
+          rw (contains_from i q (omega arith), st.counted q (omega arith)) (sym (reaching_set ends r q i.finish small (omega arith)));
+      past = λ q h. past_next n i (map (λ (d : Placed). d.interval) st.done) ends r st.now q held early small free (omega arith) (st.counted q) (st.past q);
+      machines = λ v. rw (number, st.machines v) (machine_next regs r v);
+      below = All-push (λ r. r < n) regs r st.below (omega arith);
+    }
+
+-- at the end
+pub standing_uncrowded : (n : ℕ) (all : List Interval) (ends regs : List ℕ) → Standing n all [] ends regs → IsUncrowded n all
+standing_uncrowded n all ends regs st q =
+    elim (cases_lt q st.now) [
+      inl h ↦ omega (arith, st.total q, st.past q h)
+    | inr h ↦ omega (arith, st.total q, st.counted q h, count_by-le-length (λ (e : ℕ). nat_le q e) ends)
+    ]
+
+pub standing_machines : (n : ℕ) (all : List Interval) (ends regs : List ℕ) → Standing n all [] ends regs → (v : ℕ) → machine_of (place_from n [] all) v ≡ get_or regs v 0
+standing_machines n all ends regs st v = rw (← st.follows) (st.machines v)
+
+-- where no register is free
+pub standing_crowded : (n : ℕ) (all : List Interval) (i : Interval) (left : List Interval) (ends regs : List ℕ) → Standing n all (i ∷ left) ends regs →
+    ((k : ℕ) → k < length ends → i.start ≤ get_or ends k 0) → IsCrowded n all i.start (n + 1)
+standing_crowded n all i left ends regs st busy =
+    let early : st.now ≤ i.start = st.rising.0 in
+    let ordered : i.start ≤ i.finish = st.rising.1 in
+    let full : reaching i.start ends ≡ length ends = reaching_all i.start ends busy in
+    let here : contains i i.start ≡ true = contains_from i i.start (omega arith) ∙ le-leb i.start i.finish ordered in
+    let one : count_at (i ∷ left) i.start ≡ cond (contains i i.start) 1 0 + count_at left i.start = count-cons (λ (j : Interval). contains j i.start) i left in
+    let single : ◌≡◌ {A = ℕ} (cond (contains i i.start) 1 0) 1 = rw here refl in
+    let later : count_at left i.start ≡ 0 = later_none i.start (i.start + 1) left (omega arith) st.rising.2 in
+    record {
+      count = omega (arith, st.total i.start, st.counted i.start early, full, one, single, later, st.held);
+      over = omega arith;
+      first = λ q h.
+        let none : count_at (i ∷ left) q ≡ 0 = later_none q i.start (i ∷ left) h (omega arith, ordered, st.rising.2) in
+        elim (cases_lt q st.now) [
+          inl l ↦ omega (arith, st.total q, st.past q l, none)
+        | inr l ↦ omega (arith, st.total q, st.counted q l, count_by-le-length (λ (e : ℕ). nat_le q e) ends, none, st.held)
+        ];
+    }

@@ -6,8 +6,10 @@
 ghost use Rattle.std.specs.Prelude.{◌≡◌, ℕ, ◌+◌, ◌*◌, ◌<◌, ◌≤◌, ◌^◌, ◌++◌, ◌||◌, length, IfOk, OnOk, MatchOption, slice_index};
 ghost use Rattle.std.specs.List.{list_any};
 ghost use Rattle.po_term.specs.Terms.{tree_of};
-ghost use Rattle.po_term.specs.Moves.{move_of, instr_of, instrs_of};
-ghost use Rattle.po_run.specs.Placement.{intervals, register_is, tree_reads, move_reads, reads};
+ghost use Rattle.po_word.specs.declared.operator.Rel.{Rel};
+ghost use Rattle.po_term.specs.declared.term.Label.{Label};
+ghost use Rattle.po_term.specs.Moves.{branch_of, move_of, instr_of, instrs_of};
+ghost use Rattle.po_run.specs.Placement.{intervals, register_is, tree_reads, ending_reads, move_reads, reads};
 ghost use Rattle.po_run.specs.Numbered.{NumberedFrom};
 ghost use Rattle.po_run.specs.Spans.{numbered, marked, sets_virtual, opened, Rising};
 ghost use Rattle.po_run.specs.Places.{PlacesAll, Places};
@@ -93,11 +95,20 @@ fn note_transfer(transfer: &Transfer, point: u32, spans: &mut [Span])
 {
     match transfer {
         Transfer::Set(_, t) => note_term(t, point, spans),
-        Transfer::Cc(t, u) | Transfer::Store(t, u) | Transfer::If(Cond::Two(t, u), _, _) => note_both(t, u, point, spans),
-        Transfer::If(Cond::Cc, _, _) => {}
+        Transfer::Cc(t, u) | Transfer::Store(t, u) => note_both(t, u, point, spans),
+        Transfer::If(cond, _, _) => note_cond(cond, point, spans),
         Transfer::Goto(_) => {}
         Transfer::Call(_, _) => {}
         Transfer::Ret => {}
+    }
+}
+
+fn note_cond(cond: &Cond, point: u32, spans: &mut [Span])
+    ensures { (r : Rel) (l : Label) → spans.new ≡ marked (λ v. ending_reads v (branch_of cond.now r l)) point 0 spans.old }
+{
+    match cond {
+        Cond::Cc => {}
+        Cond::Two(t, u) => note_both(t, u, point, spans),
     }
 }
 
