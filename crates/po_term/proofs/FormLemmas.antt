@@ -1,5 +1,5 @@
 -- What the test of well-formed instructions needs: facts of trees, of lists of moves, and of a move before another.
-use Rattle.std.proofs.Common.{suc, ◌≡◌, ℕ, ◌+◌, ◌*◌, ◌^◌, ◌<◌, ◌≤◌, ◌↔◌, max, List, [], ◌∷◌, length, map, All, AllPairs, Bool, true, false, not, IsTrue, arith, sym, subst, get_or, take, drop, ◌-◌, refl, zero-le, lit<}
+use Rattle.std.proofs.Common.{suc, ◌≡◌, ℕ, ◌+◌, ◌*◌, ◌^◌, ◌<◌, ◌≤◌, ◌↔◌, max, List, [], ◌∷◌, length, All, AllPairs, Bool, true, false, not, IsTrue, arith, sym, subst, get_or, take, drop, ◌-◌, refl, zero-le, lit<}
 use Rattle.std.proofs.lemmas.List.{get_or-map, length-map}
 use Rattle.std.proofs.lemmas.Nat.{pow-add}
 use Rattle.std.proofs.lemmas.List.Elements.{All-map}
@@ -11,7 +11,7 @@ use Rattle.po_term.specs.declared.term.Reg.{Reg as Register}
 use Rattle.po_term.specs.declared.transfer.Transfer.{Transfer}
 use Rattle.po_term.specs.Tree.{Tree, Const, Leaf, Read, Unary, Binary, tree_size, tree_depth}
 use Rattle.po_term.specs.Terms.{Place}
-use Rattle.po_term.specs.Moves.{SetTo, CcTo, StoreTo, Ends, move_of, moves_of}
+use Rattle.po_term.specs.Moves.{SetTo, move_of, moves_of}
 use Rattle.po_term.specs.Form.{PlainMove, Sets, GoesBefore, WellFormedMove, WellFormed}
 
 pub depth_positive : {K L : Type 0} (t : Tree K L) → 1 ≤ tree_depth t

@@ -3,8 +3,8 @@
 ghost use Rattle.std.specs.Prelude.{◌≡◌, ◌≢◌, ◌↔◌, ◌<◌, ◌≤◌, ◌^◌, IsTrue, All, AllPairs, length};
 ghost use Rattle.po_term.specs.Tree.{tree_depth, EachConst, EachLeaf};
 ghost use Rattle.po_term.specs.Terms.{tree_of};
-ghost use Rattle.po_term.specs.Moves.{branch_of, move_of, moves_of, instr_of};
-ghost use Rattle.po_term.specs.Form.{IsRegister, IsPlace, IsLabel, WellFormedTerm, WellFormedEnding, WellFormedMove, kind_of, Sets, GoesBefore, WellFormed};
+ghost use Rattle.po_term.specs.Moves.{move_of, instr_of};
+ghost use Rattle.po_term.specs.Form.{IsRegister, IsPlace, WellFormedTerm, WellFormedMove, kind_of, Sets, GoesBefore, WellFormed};
 
 use crate::{Cond, Instr, Reg, Term, Transfer, size};
 

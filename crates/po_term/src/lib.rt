@@ -10,6 +10,8 @@ mod form;
 mod measure;
 mod same;
 mod term;
+#[cfg(test)]
+mod tests;
 mod transfer;
 
 pub use copy::{copy_instr, copy_term};
