@@ -1,3 +1,4 @@
 pub mod Tree
 pub mod Terms
 pub mod Moves
+pub mod Form
