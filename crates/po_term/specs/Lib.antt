@@ -1,3 +1,7 @@
 pub mod Tree
 pub mod Terms
 pub mod Moves
+pub mod Kinds
+pub mod Simplified
+pub mod Worth
+pub mod Actions
