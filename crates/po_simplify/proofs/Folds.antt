@@ -55,6 +55,12 @@ bin_fits Shl a b h i = mod_below (a * 2 ^ (b % 32)) (2 ^ 32) (omega arith)
 bin_fits Sar a b h i = shifted_fits (signed a) (b % 32) (is_small a h)
 bin_fits Shr a b h i = omega (arith, shr_le a (b % 32))
 
+pub add_zero : (x : ℕ) → x < 2 ^ 32 → x ≡ bin_value Add x 0
+add_zero x h = omega arith
+
+pub add_comm : (x y : ℕ) → (x + y) % 2 ^ 32 ≡ (y + x) % 2 ^ 32
+add_comm x y = omega arith
+
 pub add_twice : (x d c : ℕ) → (x + (d + c) % 2 ^ 32) % 2 ^ 32 ≡ ((x + d) % 2 ^ 32 + c) % 2 ^ 32
 add_twice x d c = omega arith
 

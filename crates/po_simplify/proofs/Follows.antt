@@ -1,4 +1,7 @@
--- The tables read over one kind of constants follow those read over another.
+-- The tables read over one kind of constants follow those read over another: where f takes the folds of the one to those of the
+-- other, and the questions that were met are answered alike, the reading over the other meets the same questions and gives the same.
+-- With f = putting words into expressions, it says that this commutes with simplifying; with f = the identity, that words
+-- which answer alike have one path and one result.
 use Rattle.std.proofs.Common.{◌≡◌, ℕ, Bool, true, false, List, [], ◌∷◌, ◌++◌, map, refl, sym, ◌∙◌, ap, subst}
 use Rattle.std.specs.Prelude.{if◌then◌else◌}
 use Rattle.po_word.specs.declared.operator.Un.{Un}
@@ -6,9 +9,9 @@ use Rattle.po_word.specs.declared.operator.Un.TheVariants.{Neg, Not}
 use Rattle.po_word.specs.declared.operator.Bin.{Bin}
 use Rattle.po_word.specs.declared.operator.Bin.TheVariants.{Add, Sub, Mul, And, Or, Xor, Shl, Sar, Shr}
 use Rattle.po_term.specs.Tree.{tree_map, Tree, Const, Leaf, Read, Unary, Binary}
-use Rattle.po_word.specs.Exprs.{Ask, Zero, One, Ones, Pow2, ask_map}
+use Rattle.po_word.specs.Exprs.{Ask, Zero, One, Ones, Pow2, Related, ask_map}
 use Rattle.po_term.specs.Kinds.{Kind, Met, give, and_then, ask}
-use Rattle.po_term.specs.Simplified.{make_neg, make_not, sum_unless_zero, plus_const, minus_from, make_minus, plus_right, plus_left, plus_from, make_plus, times_const, and_const, or_const, xor_const, make_swapped, make_shift, unary_of, binary_of, simple}
+use Rattle.po_term.specs.Simplified.{make_neg, make_not, plain, plus_const, minus_from, make_minus, make_plus, times_const, and_const, or_const, xor_const, make_swapped, make_shift, unary_of, binary_of, simple, decided, simple_move, simple_moves}
 
 -- f takes the folds of the one kind to those of the other
 pub record Carries {J K : Type 0} (j : Kind J) (k : Kind K) (f : J → K) : Type 0 where
@@ -68,14 +71,14 @@ module _ {J K L M : Type 0} (j : Kind J) (k : Kind K) (f : J → K) (g : L → M
   make_not-follows (Unary Not t) _ = refl
   make_not-follows a _ = refl
 
-  pub sum_unless_zero-follows : (a : Tree J L) (c : J) → Follows j k f (tree_map f g) (sum_unless_zero j rj a c) (sum_unless_zero k rk (tree_map f g a) (f c))
-  sum_unless_zero-follows a c =
-      ask-follows j k f (tree_map f g) (Zero c) (give a) (give (Binary Add a (Const c))) (give (tree_map f g a)) (give (tree_map f g (Binary Add a (Const c)))) (λ _. refl) (λ _. refl)
+  pub plain-follows : (o : Bin) (a : Tree J L) (c : J) → Follows j k f (tree_map f g) (plain j rj o a c) (plain k rk o (tree_map f g a) (f c))
+  plain-follows o a c =
+      ask-follows j k f (tree_map f g) (Zero c) (give a) (give (Binary o a (Const c))) (give (tree_map f g a)) (give (tree_map f g (Binary o a (Const c)))) (λ _. refl) (λ _. refl)
 
   pub plus_const-follows : (a : Tree J L) (c : J) → Follows j k f (tree_map f g) (plus_const j rj a c) (plus_const k rk (tree_map f g a) (f c))
   plus_const-follows (Const d) c = λ _. simp carries.bin
-  plus_const-follows (Binary Add t (Const d)) c = rw (← carries.bin Add d c) (sum_unless_zero-follows t (j.bin Add d c))
-  plus_const-follows a c = sum_unless_zero-follows a c
+  plus_const-follows (Binary Add t (Const d)) c = rw (← carries.bin Add d c) (plain-follows Add t (j.bin Add d c))
+  plus_const-follows a c = plain-follows Add a c
 
   pub minus_from-follows : (c : J) (b : Tree J L) → Follows j k f (tree_map f g) (minus_from j rj c b) (minus_from k rk (f c) (tree_map f g b))
   minus_from-follows c b =
@@ -92,29 +95,20 @@ module _ {J K L M : Type 0} (j : Kind J) (k : Kind K) (f : J → K) (g : L → M
       same_leaf false = λ _. refl
   make_minus-follows a b = λ _. refl
 
-  pub plus_right-follows : (a b : Tree J L) → Follows j k f (tree_map f g) (plus_right j rj a b) (plus_right k rk (tree_map f g a) (tree_map f g b))
-  plus_right-follows a (Const c) = plus_const-follows a c
-  plus_right-follows a (Binary Add u (Const d)) =
-      and_then-follows j k f (tree_map f g) (tree_map f g) (plus_right j rj a u) (plus_right k rk (tree_map f g a) (tree_map f g u)) (λ s. plus_const j rj s d) (λ s. plus_const k rk s (f d)) (plus_right-follows a u) (λ s. plus_const-follows s d)
-  plus_right-follows a (Unary Neg u) = make_minus-follows a u
-  plus_right-follows a b = λ _. refl
-
-  pub plus_from-follows : (c : J) (b : Tree J L) → Follows j k f (tree_map f g) (plus_from j rj c b) (plus_from k rk (f c) (tree_map f g b))
-  plus_from-follows c (Const d) = λ _. simp carries.bin
-  plus_from-follows c b = plus_const-follows b c
-
-  pub plus_left-follows : (m : Tree J L → Met J (Tree J L)) (n : Tree K M → Met K (Tree K M)) (t : Tree J L) (c : J) (onto : (b : Tree J L) → Follows j k f (tree_map f g) (m b) (n (tree_map f g b))) (b : Tree J L) → Follows j k f (tree_map f g) (plus_left j rj m t c b) (plus_left k rk n (tree_map f g t) (f c) (tree_map f g b))
-  plus_left-follows m n t c onto (Const d) = plus_const-follows (Binary Add t (Const c)) d
-  plus_left-follows m n t c onto (Binary Add u (Const d)) =
-      rw (← carries.bin Add c d)
-      (and_then-follows j k f (tree_map f g) (tree_map f g) (m u) (n (tree_map f g u)) (λ s. plus_const j rj s (j.bin Add c d)) (λ s. plus_const k rk s (f (j.bin Add c d))) (onto u) (λ s. plus_const-follows s (j.bin Add c d)))
-  plus_left-follows m n t c onto b =
-      and_then-follows j k f (tree_map f g) (tree_map f g) (m b) (n (tree_map f g b)) (λ s. plus_const j rj s c) (λ s. plus_const k rk s (f c)) (onto b) (λ s. plus_const-follows s c)
-
   pub make_plus-follows : (a b : Tree J L) → Follows j k f (tree_map f g) (make_plus j rj a b) (make_plus k rk (tree_map f g a) (tree_map f g b))
-  make_plus-follows (Const c) b = plus_from-follows c b
-  make_plus-follows (Binary Add t (Const c)) b = plus_left-follows (make_plus j rj t) (make_plus k rk (tree_map f g t)) t c (make_plus-follows t) b
-  make_plus-follows a b = plus_right-follows a b
+  unfolding make_plus
+  make_plus-follows (Const c) (Const d) = λ _. simp carries.bin
+  make_plus-follows (Const c) b = plus_const-follows b c
+  make_plus-follows a (Const c) = plus_const-follows a c
+  make_plus-follows (Binary Add t (Const c)) (Binary Add u (Const d)) =
+      rw (← carries.bin Add c d)
+      (and_then-follows j k f (tree_map f g) (tree_map f g) (make_plus j rj t u) (make_plus k rk (tree_map f g t) (tree_map f g u)) (λ s. plus_const j rj s (j.bin Add c d)) (λ s. plus_const k rk s (f (j.bin Add c d))) (make_plus-follows t u) (λ s. plus_const-follows s (j.bin Add c d)))
+  make_plus-follows (Binary Add t (Const c)) b =
+      and_then-follows j k f (tree_map f g) (tree_map f g) (make_plus j rj t b) (make_plus k rk (tree_map f g t) (tree_map f g b)) (λ s. plus_const j rj s c) (λ s. plus_const k rk s (f c)) (make_plus-follows t b) (λ s. plus_const-follows s c)
+  make_plus-follows a (Binary Add u (Const d)) =
+      and_then-follows j k f (tree_map f g) (tree_map f g) (make_plus j rj a u) (make_plus k rk (tree_map f g a) (tree_map f g u)) (λ s. plus_const j rj s d) (λ s. plus_const k rk s (f d)) (make_plus-follows a u) (λ s. plus_const-follows s d)
+  make_plus-follows a (Unary Neg u) = make_minus-follows a u
+  make_plus-follows a b = λ _. refl
 
   pub times_const-follows : (a : Tree J L) (c : J) → Follows j k f (tree_map f g) (times_const j rj a c) (times_const k rk (tree_map f g a) (f c))
   times_const-follows (Const d) c = λ _. simp carries.bin
@@ -137,10 +131,6 @@ module _ {J K L M : Type 0} (j : Kind J) (k : Kind K) (f : J → K) (g : L → M
       ask-follows j k f (tree_map f g) (Zero c) (give (Const (j.number 0))) (ask j (Ones c) (give a) (give (Binary And a (Const c)))) (give (Const (k.number 0))) (ask k (Ones (f c)) (give (tree_map f g a)) (give (Binary And (tree_map f g a) (Const (f c)))))
       (λ _. simp carries.number)
       (ask-follows j k f (tree_map f g) (Ones c) (give a) (give (Binary And a (Const c))) (give (tree_map f g a)) (give (Binary And (tree_map f g a) (Const (f c)))) (λ _. refl) (λ _. refl))
-
-  plain-follows : (o : Bin) (a : Tree J L) (c : J) → Follows j k f (tree_map f g) (ask j (Zero c) (give a) (give (Binary o a (Const c)))) (ask k (Zero (f c)) (give (tree_map f g a)) (give (Binary o (tree_map f g a) (Const (f c)))))
-  plain-follows o a c =
-      ask-follows j k f (tree_map f g) (Zero c) (give a) (give (Binary o a (Const c))) (give (tree_map f g a)) (give (Binary o (tree_map f g a) (Const (f c)))) (λ _. refl) (λ _. refl)
 
   pub or_const-follows : (a : Tree J L) (c : J) → Follows j k f (tree_map f g) (or_const j rj a c) (or_const k rk (tree_map f g a) (f c))
   or_const-follows (Const d) c = λ _. simp carries.bin

@@ -1,1 +1,4 @@
+pub mod Folds
+pub mod Follows
 pub mod PlusStages
+pub mod Worths

@@ -1,4 +1,4 @@
--- The word of a term is kept by the constructors.
+-- Simplifying keeps values: the word of what a constructor makes is the operator's of the operands' words, in every state.
 use Rattle.std.proofs.Common.{◌≡◌, ℕ, zero, suc, ◌+◌, ◌-◌, ◌%◌, ◌^◌, ◌<◌, Bool, true, false, refl, sym, ◌∙◌, ap, arith, subst, lit<}
 use Rattle.std.specs.Prelude.{◌==◌, if◌then◌else◌}
 use Rattle.std.proofs.lemmas.Bool.{eqb-true}
@@ -9,11 +9,10 @@ use Rattle.po_term.specs.declared.term.Reg.{Reg as Register}
 use Rattle.po_term.specs.declared.term.Reg.TheVariants.{Virt, Fp, Rv, Arg}
 use Rattle.po_term.specs.Tree.{Tree, Const, Leaf, Read, Unary, Binary, EachConst}
 use Rattle.po_term.specs.Terms.{Place, InReg, AtSym, State, IsState, stored, value}
-use Rattle.po_term.specs.Kinds.{Kind, Met, give, and_then, ask}
-use Rattle.po_term.specs.Simplified.{make_neg, make_not, sum_unless_zero, plus_const, minus_from, make_minus, plus_right, plus_left, plus_from, make_plus, times_plain, and_plain, plain, times_const, and_const, or_const, xor_const, make_swapped, make_shift, unary_of, binary_of, simple}
-use Rattle.po_simplify.specs.Words.{words, same_register, reg_eq}
+use Rattle.po_term.specs.Kinds.{words, Met, give, and_then, ask}
+use Rattle.po_term.specs.Simplified.{reg_eq, same_register, make_neg, make_not, plain, plus_const, minus_from, make_minus, make_plus, times_plain, and_plain, times_const, and_const, or_const, xor_const, make_swapped, make_shift, unary_of, binary_of, simple}
 use Rattle.po_term.specs.Worth.{HasWords, IsWorth}
-use Rattle.po_simplify.proofs.Folds.{un_fits, bin_fits, add_twice, neg_twice, not_twice, add_neg, sub_same, add_across, add_left, add_right, mul_twice, one_bit, shift_by_bit, or_assoc, shl_zero, sar_zero, shr_zero}
+use Rattle.po_simplify.proofs.Folds.{un_fits, bin_fits, add_twice, neg_twice, not_twice, add_neg, sub_same, add_across, add_comm, add_left, add_right, add_zero, mul_twice, one_bit, shift_by_bit, or_assoc, shl_zero, sar_zero, shr_zero}
 use Rattle.po_word.specs.declared.operator.Un.{Un}
 use Rattle.po_word.specs.declared.operator.Bin.{Bin}
 use Rattle.po_word.specs.Exprs.{log2, One, Pow2, Ones}
@@ -51,19 +50,19 @@ module _ (s : State) (fits : IsState s) where
   not_worth (Unary Not t) h = record { words = h; worth = not_twice (value s t) (value_fits t h) }
   not_worth a h = record { words = h; worth = refl }
 
-  sum_worth : (a : Tree ℕ Place) (c : ℕ) → HasWords a → c < 2 ^ 32 → IsWorth s (sum_unless_zero words same_register a c).got (bin_value Add (value s a) c)
-  sum_worth a c h i = go (c == 0) refl
+  plain_worth : (o : Bin) → ((x : ℕ) → x < 2 ^ 32 → x ≡ bin_value o x 0) → (a : Tree ℕ Place) (c : ℕ) → HasWords a → c < 2 ^ 32 → IsWorth s (plain words same_register o a c).got (bin_value o (value s a) c)
+  plain_worth o zero_is a c h i = by_zero (c == 0) refl
     where
-      go : (b : Bool) → (c == 0) ≡ b → IsWorth s (if b then give {K = ℕ} a else give {K = ℕ} (Binary Add a (Const c))).got (bin_value Add (value s a) c)
-      go true e = let z : c ≡ 0 = eqb-true c 0 e in let f : value s a < 2 ^ 32 = value_fits a h in record { words = h; worth = omega arith }
-      go false e = record { words = (h, i); worth = refl }
+      by_zero : (b : Bool) → (c == 0) ≡ b → IsWorth s (if b then give {K = ℕ} a else give {K = ℕ} (Binary o a (Const c))).got (bin_value o (value s a) c)
+      by_zero true e = let z : c ≡ 0 = eqb-true c 0 e in record { words = h; worth = rw z (zero_is (value s a) (value_fits a h)) }
+      by_zero false e = record { words = (h, i); worth = refl }
 
   const_worth : (a : Tree ℕ Place) (c : ℕ) → HasWords a → c < 2 ^ 32 → IsWorth s (plus_const words same_register a c).got (bin_value Add (value s a) c)
   const_worth (Const d) c h i = record { words = bin_fits Add d c h i; worth = refl }
   const_worth (Binary Add t (Const d)) c h i =
-      let w : IsWorth s (plus_const words same_register (Binary Add t (Const d)) c).got (bin_value Add (value s t) (bin_value Add d c)) = sum_worth t (bin_value Add d c) h.0 (bin_fits Add d c h.1 i) in
+      let w : IsWorth s (plus_const words same_register (Binary Add t (Const d)) c).got (bin_value Add (value s t) (bin_value Add d c)) = plain_worth Add add_zero t (bin_value Add d c) h.0 (bin_fits Add d c h.1 i) in
       record { words = w.words; worth = w.worth ∙ add_twice (value s t) d c }
-  const_worth a c h i = sum_worth a c h i
+  const_worth a c h i = plain_worth Add add_zero a c h i
 
   from_worth : (c : ℕ) (b : Tree ℕ Place) → c < 2 ^ 32 → HasWords b → IsWorth s (minus_from words same_register c b).got (bin_value Sub c (value s b))
   from_worth c b h i = go (c == 0) refl
@@ -91,36 +90,27 @@ module _ (s : State) (fits : IsState s) where
       go false e = record { words = (tt, tt); worth = refl }
   minus_worth a b h i = record { words = (h, i); worth = refl }
 
-  right_worth : (a b : Tree ℕ Place) → HasWords a → HasWords b → IsWorth s (plus_right words same_register a b).got (bin_value Add (value s a) (value s b))
-  right_worth a (Const c) h i = const_worth a c h i
-  right_worth a (Binary Add u (Const d)) h i =
-      let v : IsWorth s (plus_right words same_register a u).got (bin_value Add (value s a) (value s u)) = right_worth a u h i.0 in
-      let w = const_worth (plus_right words same_register a u).got d v.words i.1 in
+  pub plus_worth : (a b : Tree ℕ Place) → HasWords a → HasWords b → IsWorth s (make_plus words same_register a b).got (bin_value Add (value s a) (value s b))
+  unfolding make_plus
+  plus_worth (Const c) (Const d) h i = record { words = bin_fits Add c d h i; worth = refl }
+  plus_worth (Const c) b h i = let w = const_worth b c i h in record { words = w.words; worth = w.worth ∙ add_comm (value s b) c }
+  plus_worth a (Const c) h i = const_worth a c h i
+  plus_worth (Binary Add t (Const c)) (Binary Add u (Const d)) h i =
+      let v = plus_worth t u h.0 i.0 in
+      let w = const_worth (make_plus words same_register t u).got (bin_value Add c d) v.words (bin_fits Add c d h.1 i.1) in
+      record { words = w.words; worth = w.worth ∙ ap (λ x. bin_value Add x (bin_value Add c d)) v.worth ∙ add_across (value s t) (value s u) c d }
+  plus_worth (Binary Add t (Const c)) b h i =
+      let v = plus_worth t b h.0 i in
+      let w = const_worth (make_plus words same_register t b).got c v.words h.1 in
+      record { words = w.words; worth = w.worth ∙ ap (λ x. bin_value Add x c) v.worth ∙ add_left (value s t) (value s b) c }
+  plus_worth a (Binary Add u (Const d)) h i =
+      let v = plus_worth a u h i.0 in
+      let w = const_worth (make_plus words same_register a u).got d v.words i.1 in
       record { words = w.words; worth = w.worth ∙ ap (λ x. bin_value Add x d) v.worth ∙ add_right (value s a) (value s u) d }
-  right_worth a (Unary Neg u) h i =
+  plus_worth a (Unary Neg u) h i =
       let w = minus_worth a u h i in
       record { words = w.words; worth = w.worth ∙ sym (add_neg (value s a) (value s u)) }
-  right_worth a b h i = record { words = (h, i); worth = refl }
-
-  plus_from_worth : (c : ℕ) (b : Tree ℕ Place) → c < 2 ^ 32 → HasWords b → IsWorth s (plus_from words same_register c b).got (bin_value Add c (value s b))
-  plus_from_worth c (Const d) h i = record { words = bin_fits Add c d h i; worth = refl }
-  plus_from_worth c b h i = let w = const_worth b c i h in record { words = w.words; worth = w.worth ∙ omega arith }
-
-  left_worth : (onto : Tree ℕ Place → Met ℕ (Tree ℕ Place)) (t : Tree ℕ Place) (c : ℕ) (b : Tree ℕ Place) (ih : (u : Tree ℕ Place) → HasWords u → IsWorth s (onto u).got (bin_value Add (value s t) (value s u))) → HasWords t → c < 2 ^ 32 → HasWords b → IsWorth s (plus_left words same_register onto t c b).got (bin_value Add (bin_value Add (value s t) c) (value s b))
-  left_worth onto t c (Const d) ih h k i = const_worth (Binary Add t (Const c)) d (h, k) i
-  left_worth onto t c (Binary Add u (Const d)) ih h k i =
-      let v = ih u i.0 in
-      let w = const_worth (onto u).got (bin_value Add c d) v.words (bin_fits Add c d k i.1) in
-      record { words = w.words; worth = w.worth ∙ ap (λ x. bin_value Add x (bin_value Add c d)) v.worth ∙ add_across (value s t) (value s u) c d }
-  left_worth onto t c b ih h k i =
-      let v = ih b i in
-      let w = const_worth (onto b).got c v.words k in
-      record { words = w.words; worth = w.worth ∙ ap (λ x. bin_value Add x c) v.worth ∙ add_left (value s t) (value s b) c }
-
-  pub plus_worth : (a b : Tree ℕ Place) → HasWords a → HasWords b → IsWorth s (make_plus words same_register a b).got (bin_value Add (value s a) (value s b))
-  plus_worth (Const c) b h i = plus_from_worth c b h i
-  plus_worth (Binary Add t (Const c)) b h i = left_worth (make_plus words same_register t) t c b (λ u k. plus_worth t u h.0 k) h.0 h.1 i
-  plus_worth a b h i = right_worth a b h i
+  plus_worth a b h i = record { words = (h, i); worth = refl }
 
   times_plain_worth : (a : Tree ℕ Place) (c : ℕ) → HasWords a → c < 2 ^ 32 → IsWorth s (times_plain words same_register a c).got (bin_value Mul (value s a) c)
   times_plain_worth a c h i = by_zero (c == 0) refl
@@ -163,13 +153,6 @@ module _ (s : State) (fits : IsState s) where
       let w = and_worth t (bin_value And d c) h.0 (bin_fits And d c h.1 i) in
       record { words = w.words; worth = w.worth ∙ sym (and_assoc c (value s t) d) }
   and_worth a c h i = and_plain_worth a c h i
-
-  plain_worth : (o : Bin) → ((x : ℕ) → x < 2 ^ 32 → x ≡ bin_value o x 0) → (a : Tree ℕ Place) (c : ℕ) → HasWords a → c < 2 ^ 32 → IsWorth s (plain words same_register o a c).got (bin_value o (value s a) c)
-  plain_worth o zero_is a c h i = by_zero (c == 0) refl
-    where
-      by_zero : (b : Bool) → (c == 0) ≡ b → IsWorth s (if b then give {K = ℕ} a else give {K = ℕ} (Binary o a (Const c))).got (bin_value o (value s a) c)
-      by_zero true e = let z : c ≡ 0 = eqb-true c 0 e in record { words = h; worth = rw z (zero_is (value s a) (value_fits a h)) }
-      by_zero false e = record { words = (h, i); worth = refl }
 
   or_worth : (a : Tree ℕ Place) (c : ℕ) → HasWords a → c < 2 ^ 32 → IsWorth s (or_const words same_register a c).got (bin_value Or (value s a) c)
   or_worth (Const d) c h i = record { words = bin_fits Or d c h i; worth = refl }

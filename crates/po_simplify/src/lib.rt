@@ -6,12 +6,12 @@
 #![tactic(auto)]
 
 //mod instr;
-//mod make;
+mod make;
 mod parts;
 mod products;
 mod sums;
-//mod terms;
+mod terms;
 
 //pub use instr::simplify_instr;
-//pub use make::{make_bin, make_un};
-//pub use terms::simplify;
+pub use make::{make_bin, make_un};
+pub use terms::simplify;
