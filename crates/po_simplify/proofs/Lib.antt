@@ -2,3 +2,4 @@ pub mod Folds
 pub mod Follows
 pub mod PlusStages
 pub mod Worths
+pub mod Acts

@@ -5,13 +5,13 @@
 //! `tree_of`, and keeps the value of the term in every state. A term is taken by value and its parts are moved, never copied.
 #![tactic(auto)]
 
-//mod instr;
+mod instr;
 mod make;
 mod parts;
 mod products;
 mod sums;
 mod terms;
 
-//pub use instr::simplify_instr;
+pub use instr::simplify_instr;
 pub use make::{make_bin, make_un};
 pub use terms::simplify;

@@ -5,3 +5,4 @@ pub mod Kinds
 pub mod Simplified
 pub mod Worth
 pub mod Actions
+pub mod MoveMap
