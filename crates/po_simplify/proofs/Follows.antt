@@ -40,7 +40,7 @@ pub alike-right : {J K : Type 0} (j : Kind J) (k : Kind K) (f : J → K) (xs ys 
 alike-right j k f [] ys h = h
 alike-right j k f (q ∷ xs) ys h = alike-right j k f xs ys h.1
 
-map-append : {A B : Type 0} (f : A → B) (xs ys : List A) → map f (xs ++ ys) ≡ map f xs ++ map f ys
+pub map-append : {A B : Type 0} (f : A → B) (xs ys : List A) → map f (xs ++ ys) ≡ map f xs ++ map f ys
 map-append f [] ys = refl
 map-append f (x ∷ xs) ys = ap (λ zs. f x ∷ zs) (map-append f xs ys)
 
