@@ -33,7 +33,12 @@ fn decide(a: Term, b: Term, rel: Rel, to: Label) -> Option<Transfer>
 }
 
 /// What becomes of a branch.
-fn simplify_branch(alloc: Global, cond: Cond, rel: Rel, to: Label) -> Result<Option<Transfer>, OutOfMemory>
+fn simplify_branch(
+    alloc: Global,
+    cond: Cond,
+    rel: Rel,
+    to: Label,
+) -> Result<Option<Transfer>, OutOfMemory>
     ensures made { IfOk result (λ kept. moves_of (option_to_list kept) ≡ (simple_move words same_register (Ends (branch_of cond rel to))).got) }
     ensures fits { OnOk result (MoveHasWords (Ends (branch_of cond rel to))) }
 {

@@ -85,7 +85,10 @@ fn or_with_const(alloc: Global, a: Term, c: u32) -> Result<Term, OutOfMemory>
         Term::Num(d) => Ok(Term::Num(apply_bin(Bin::Or, d, c))),
         Term::Bin(Bin::Or, t, u) => match Box::into_inner(u) {
             Term::Num(d) => or_with_const(alloc, Box::into_inner(t), apply_bin(Bin::Or, d, c)),
-            u => unless_zero(alloc, Bin::Or, binary(alloc, Bin::Or, Box::into_inner(t), u)?, c),
+            u => {
+                let a = binary(alloc, Bin::Or, Box::into_inner(t), u)?;
+                unless_zero(alloc, Bin::Or, a, c)
+            }
         },
         a => unless_zero(alloc, Bin::Or, a, c),
     }
@@ -99,7 +102,10 @@ fn xor_with_const(alloc: Global, a: Term, c: u32) -> Result<Term, OutOfMemory>
         Term::Num(d) => Ok(Term::Num(apply_bin(Bin::Xor, d, c))),
         Term::Bin(Bin::Xor, t, u) => match Box::into_inner(u) {
             Term::Num(d) => xor_with_const(alloc, Box::into_inner(t), apply_bin(Bin::Xor, d, c)),
-            u => unless_zero(alloc, Bin::Xor, binary(alloc, Bin::Xor, Box::into_inner(t), u)?, c),
+            u => {
+                let a = binary(alloc, Bin::Xor, Box::into_inner(t), u)?;
+                unless_zero(alloc, Bin::Xor, a, c)
+            }
         },
         a => unless_zero(alloc, Bin::Xor, a, c),
     }

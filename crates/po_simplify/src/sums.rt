@@ -53,7 +53,10 @@ fn add_const(alloc: Global, a: Term, c: u32) -> Result<Term, OutOfMemory>
     match a {
         Term::Num(d) => Ok(Term::Num(apply_bin(Bin::Add, d, c))),
         Term::Bin(Bin::Add, t, u) => match Box::into_inner(u) {
-            Term::Num(d) => unless_zero(alloc, Bin::Add, Box::into_inner(t), apply_bin(Bin::Add, d, c)),
+            Term::Num(d) => {
+                let e = apply_bin(Bin::Add, d, c);
+                unless_zero(alloc, Bin::Add, Box::into_inner(t), e)
+            }
             u => unless_zero(alloc, Bin::Add, Term::Bin(Bin::Add, t, boxed(alloc, u)?), c),
         },
         a => unless_zero(alloc, Bin::Add, a, c),
@@ -64,13 +67,7 @@ fn add_const(alloc: Global, a: Term, c: u32) -> Result<Term, OutOfMemory>
 fn is_same(r: Reg, s: Reg) -> bool
     ensures { result ≡ reg_eq r s }
 {
-    match (r, s) {
-        (Reg::Virt(m), Reg::Virt(n)) => m == n,
-        (Reg::Fp, Reg::Fp) => true,
-        (Reg::Rv, Reg::Rv) => true,
-        (Reg::Arg(i), Reg::Arg(j)) => i == j,
-        _ => false,
-    }
+    r == s
 }
 
 /// The constructor of `(c - b)`, where b is no constant.
@@ -154,7 +151,11 @@ fn add_staged(alloc: Global, a: Term, b: Term) -> Result<Term, OutOfMemory>
                             let s = add_staged(alloc, Box::into_inner(t), Box::into_inner(x))?;
                             add_const(alloc, s, apply_bin(Bin::Add, c, d))
                         } else {
-                            let s = add_staged(alloc, Box::into_inner(t), Term::Bin(Bin::Add, x, y))?;
+                            let s = add_staged(
+                                alloc,
+                                Box::into_inner(t),
+                                Term::Bin(Bin::Add, x, y),
+                            )?;
                             add_const(alloc, s, c)
                         }
                     }
