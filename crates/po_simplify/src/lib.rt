@@ -11,6 +11,8 @@ mod parts;
 mod products;
 mod sums;
 mod terms;
+#[cfg(test)]
+mod tests;
 
 pub use instr::simplify_instr;
 pub use make::{make_bin, make_un};
