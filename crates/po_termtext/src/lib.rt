@@ -1,0 +1,8 @@
+//! The text of terms, transfers and instructions (docs/LANGUAGE.md, "Term text").
+//!
+//! `print` writes it, `read` reads terms back. A term has one text, and a text is that of at most one term.
+#![tactic(auto)]
+
+mod print;
+
+pub use print::{print_instr, print_term};
