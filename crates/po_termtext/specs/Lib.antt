@@ -1,1 +1,3 @@
 pub mod TermText
+pub mod Reading
+pub mod Gives

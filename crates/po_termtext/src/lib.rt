@@ -4,5 +4,8 @@
 #![tactic(auto)]
 
 mod print;
+mod read;
+mod refusal;
+mod word;
 
 pub use print::{print_instr, print_term};
