@@ -9,6 +9,7 @@ use po_term::{Reg, Sym, Term};
 use po_word::Bin;
 
 /// A word, and the text behind it.
+#[derive(Clone, Copy, Debug)]
 pub struct Word<'a> {
     pub word: &'a [u8],
     pub rest: &'a [u8],
