@@ -3,3 +3,7 @@ pub mod Words
 pub mod Numbers
 pub mod Depths
 pub mod Sizes
+pub mod Leaves
+pub mod Found
+pub mod Again
+pub mod Whole

@@ -1,12 +1,13 @@
 -- Words and marks at the front of a text.
 use Rattle.std.proofs.Common.{◌≡◌, ◌≢◌, ℕ, ◌+◌, List, [], ◌∷◌, ◌++◌, Bool, true, false, cond, Option, Some, None, MatchOption, refl, sym, ap, ◌∙◌, subst, length, take, drop, arith, rules, suc, zero, Bor, ◌⊎◌, inl, inr}
-use Rattle.std.specs.Prelude.{◌==◌}
-use Rattle.std.specs.List.{take_while}
+use Rattle.std.specs.Prelude.{◌==◌, ◌&&◌, not}
+use Rattle.std.specs.List.{take_while, list_all}
 use Rattle.std.specs.Option.{option_copied}
+use Rattle.std.proofs.lemmas.List.{take-append-drop}
 use Rattle.std.proofs.lemmas.List.Sums.{take_while-cons}
 use Rattle.std.proofs.lemmas.Bool.Decides.{nat_tests}
 use Rattle.po_termtext.specs.Reading.{behind, in_word, word_of, rest_of}
-use Rattle.po_termtext.proofs.Options.{chosen}
+use Rattle.po_termtext.proofs.Options.{chosen, both}
 
 same_number : (b c : ℕ) → (b == c) ≡ true → b ≡ c
 same_number b c e = grind (arith, nat_tests)
@@ -44,3 +45,34 @@ taken false p b bs e = refl
 pub take_passed : (p : ℕ → Bool) (s : List ℕ) → take (length (take_while p s)) s ≡ take_while p s
 take_passed p [] = refl
 take_passed p (b ∷ bs) = subst (λ (w : List ℕ). take (length w) (b ∷ bs) ≡ w) (sym (take_while-cons p b bs)) (taken (p b) p b bs (take_passed p bs))
+
+-- a text is its first word and the rest
+pub word_and_rest : (s : List ℕ) → s ≡ word_of s ++ rest_of s
+word_and_rest s = sym (ap (λ (w : List ℕ). w ++ rest_of s) (sym (take_passed in_word s)) ∙ take-append-drop (length (word_of s)) s)
+
+-- no word goes on here
+abbrev pub ends : List ℕ → Bool
+ends [] = true
+ends (b ∷ bs) = not (in_word b)
+
+stops : (rest : List ℕ) → ends rest ≡ true → word_of rest ≡ []
+stops [] h = refl
+stops (b ∷ bs) h = take_while-cons in_word b bs ∙ rw (no_word (in_word b) h) refl
+  where
+    no_word : (t : Bool) → not t ≡ true → t ≡ false
+    no_word true h = cc
+    no_word false h = refl
+
+-- a word in front of a rest that ends it
+pub word_again : (w rest : List ℕ) → list_all in_word w ≡ true → ends rest ≡ true → word_of (w ++ rest) ≡ w
+word_again [] rest all h = stops rest h
+word_again (b ∷ bs) rest all h =
+    let parts = both (in_word b) (list_all in_word bs) all in
+    take_while-cons in_word b (bs ++ rest) ∙ rw parts.0 (ap (λ (w : List ℕ). b ∷ w) (word_again bs rest parts.1 h))
+
+dropped : (w rest : List ℕ) → drop (length w) (w ++ rest) ≡ rest
+dropped [] rest = refl
+dropped (b ∷ bs) rest = dropped bs rest
+
+pub rest_again : (w rest : List ℕ) → list_all in_word w ≡ true → ends rest ≡ true → rest_of (w ++ rest) ≡ rest
+rest_again w rest all h = ap (λ (v : List ℕ). drop (length v) (w ++ rest)) (word_again w rest all h) ∙ dropped w rest

@@ -10,7 +10,7 @@ use Rattle.po_word.specs.declared.operator.Bin.TheVariants.{Add, Sub, Mul, And, 
 use Rattle.po_term.specs.declared.term.Reg.{Reg}
 use Rattle.po_term.specs.declared.term.Reg.TheVariants.{Virt, Fp, Rv, Arg}
 use Rattle.po_term.specs.declared.term.Sym.{Sym}
-use Rattle.po_term.specs.Tree.{Tree, Const, Leaf, Read, Unary, Binary}
+use Rattle.po_term.specs.Tree.{Tree, Const, Leaf, Read, Unary, Binary, tree_size}
 use Rattle.po_term.specs.Terms.{Place, InReg, AtSym}
 
 -- a later part is read where the earlier ones are there
@@ -123,22 +123,32 @@ operator_seen s = do
 unfoldable pub closed : (Tree ℕ Place → Tree ℕ Place) → List ℕ → Seen (Tree ℕ Place) → Option (Seen (Tree ℕ Place))
 closed make mark operand = option_map (λ rest. (make operand.0, rest)) (behind mark operand.1)
 
--- one term at the front, whose operands are read so
+-- by what stands behind `(`, `M[`, `neg(` or `not(` at the front of the text, with operands that are read so
+abbrev pub by_front : (List ℕ → Option (Seen (Tree ℕ Place))) → List ℕ → Option (List ℕ) → Option (List ℕ) → Option (List ℕ) → Option (List ℕ) → Option (Seen (Tree ℕ Place))
+by_front operand s (Some inner) memory negated inverse = do
+  left ← operand inner
+  op ← operator_seen left.1
+  right ← operand op.1
+  closed (Binary op.0 left.0) (codes ")") right
+by_front operand s None (Some inner) negated inverse = operand inner >>= closed Read (codes "]")
+by_front operand s None None (Some inner) inverse = operand inner >>= closed (Unary Neg) (codes ")")
+by_front operand s None None None (Some inner) = operand inner >>= closed (Unary Not) (codes ")")
+by_front operand s None None None None = leaf_seen s
+
+-- one term at the front
 abbrev pub term_by : (List ℕ → Option (Seen (Tree ℕ Place))) → List ℕ → Option (Seen (Tree ℕ Place))
-term_by operand s = by_front (behind (codes "(") s) (behind (codes "M[") s) (behind (codes "neg(") s) (behind (codes "not(") s)
-  where
-    by_front : Option (List ℕ) → Option (List ℕ) → Option (List ℕ) → Option (List ℕ) → Option (Seen (Tree ℕ Place))
-    by_front (Some inner) memory neg inverse = do
-      left ← operand inner
-      op ← operator_seen left.1
-      right ← operand op.1
-      closed (Binary op.0 left.0) (codes ")") right
-    by_front None (Some inner) neg inverse = operand inner >>= closed Read (codes "]")
-    by_front None None (Some inner) inverse = operand inner >>= closed (Unary Neg) (codes ")")
-    by_front None None None (Some inner) = operand inner >>= closed (Unary Not) (codes ")")
-    by_front None None None None = leaf_seen s
+term_by operand s = by_front operand s (behind (codes "(") s) (behind (codes "M[") s) (behind (codes "neg(") s) (behind (codes "not(") s)
 
 -- a term of at most this depth at the front
 unfoldable pub term_in : ℕ → List ℕ → Option (Seen (Tree ℕ Place))
 term_in zero s = None
 term_in (suc depth) s = term_by (term_in depth) s
+
+-- the term, where nothing stands behind it and it has at most 64 nodes
+unfoldable pub whole : Seen (Tree ℕ Place) → Option (Tree ℕ Place)
+whole (t, []) = if nat_le (tree_size t) 64 then Some t else None
+whole (t, b ∷ bs) = None
+
+-- a text that is one term
+unfoldable pub text_in : List ℕ → Option (Tree ℕ Place)
+text_in s = term_in 16 s >>= whole

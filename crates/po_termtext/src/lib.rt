@@ -9,3 +9,4 @@ mod refusal;
 mod word;
 
 pub use print::{print_instr, print_term};
+pub use read::{one_term_a_text, read_term};

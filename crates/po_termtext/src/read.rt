@@ -4,6 +4,8 @@ ghost use Rattle.std.specs.Option.{option_map};
 ghost use Rattle.po_term.specs.Tree.{Tree, tree_size, Unary, Binary};
 ghost use Rattle.po_term.specs.Tree.{Read as ReadAt};
 ghost use Rattle.po_term.specs.Terms.{Place, tree_of};
+ghost use Rattle.po_termtext.specs.TermText.{term_text};
+ghost use Rattle.po_termtext.specs.Form.{IsTerm, HasNumbers};
 ghost use Rattle.po_termtext.specs.Reading as reading;
 ghost use Rattle.po_termtext.specs.Gives.{Gives, seen, operator_shown};
 
@@ -12,6 +14,52 @@ use crate::word::{behind, first_word, leaf, operator};
 use po_term::Term;
 use po_word::{Bin, OutOfMemory, Un};
 use std::alloc::Global;
+
+/// No term is deeper (docs/LANGUAGE.md, "Terms").
+const MAX_DEPTH: u32 = 16;
+/// No term has more nodes (docs/LANGUAGE.md, "Terms").
+const MAX_NODES: u32 = 64;
+
+/// The term that a text is the printed text of (docs/LANGUAGE.md, "Term text"); `None` where it is that of no term of at most
+/// 64 nodes and depth 16. Only memory can fail. The text is read once, from left to right.
+pub fn read_term(alloc: Global, text: &[u8]) -> Result<Option<Term>, OutOfMemory>
+    ensures found { IfOk result (λ read. IfSome read (λ t. IsTerm (tree_of t) × (text.now ≡ term_text (tree_of t)))) }
+    ensures none { IfOk result (λ read. IfNone read ((t : Tree ℕ Place) → IsTerm t → text.now ≢ term_text t)) }
+    // A printed term is read as that term.
+    ensures again { IfOk result (λ read. (t : Tree ℕ Place) → IsTerm t → text.now ≡ term_text t → option_map tree_of read ≡ Some t) }
+{
+    let read = read_text(alloc, text)?;
+    Ok(read)
+}
+
+/// A text is that of at most one term, whatever its size and depth (docs/LANGUAGE.md, "Term text").
+pub fn one_term_a_text()
+    ensures { (t u : Tree ℕ Place) → HasNumbers t → HasNumbers u → term_text t ≡ term_text u → t ≡ u }
+{
+}
+
+#[tactic(auto, unfolding(crate::specs::Reading::text_in))]
+fn read_text(alloc: Global, text: &[u8]) -> Result<Option<Term>, OutOfMemory>
+    ensures { IfOk result (λ read. option_map tree_of read ≡ reading.text_in text.now) }
+{
+    match term(alloc, MAX_DEPTH, text) {
+        Ok(parsed) => Ok(whole(parsed)),
+        Err(Refusal::NoTerm) => Ok(None),
+        Err(Refusal::Memory) => Err(OutOfMemory),
+    }
+}
+
+/// The term, where nothing stands behind it and it is not too large.
+#[tactic(auto, unfolding(crate::specs::Reading::whole))]
+fn whole(parsed: Parsed) -> Option<Term>
+    ensures { option_map tree_of result ≡ reading.whole (seen parsed.entry) }
+{
+    if parsed.rest.is_empty() && nodes_left(&parsed.term, MAX_NODES).is_some() {
+        Some(parsed.term)
+    } else {
+        None
+    }
+}
 
 /// A term at the front of a text, and the text behind it.
 #[derive(Drop)]
