@@ -42,18 +42,24 @@ named_arg w n r h e same = subst (Named w) same (h, e ∙ sym (arg_text n (omega
 pub reg_found : (w : List ℕ) (r : Reg) → reg_named w ≡ Some r → Named w r
 unfolding reg_named
 reg_found w r e = elim (choice w (codes "fp") Fp r _ e) [
-    inl h ↦ subst (Named w) h.1 (tt, h.0)
+  | inl h ↦ subst (Named w) h.1 (tt, h.0)
   | inr e ↦ elim (choice w (codes "rv") Rv r _ e) [
-    inl h ↦ subst (Named w) h.1 (tt, h.0)
-  | inr e ↦ elim (choice w (codes "arg0") (Arg 0) r _ e) [
-    inl h ↦ named_arg w 0 r (omega arith) h.0 h.1
-  | inr e ↦ elim (choice w (codes "arg1") (Arg 1) r _ e) [
-    inl h ↦ named_arg w 1 r (omega arith) h.0 h.1
-  | inr e ↦ elim (choice w (codes "arg2") (Arg 2) r _ e) [
-    inl h ↦ named_arg w 2 r (omega arith) h.0 h.1
-  | inr e ↦ elim (choice w (codes "arg3") (Arg 3) r None e) [
-    inl h ↦ named_arg w 3 r (omega arith) h.0 h.1
-  | inr e ↦ cc ] ] ] ] ] ]
+    | inl h ↦ subst (Named w) h.1 (tt, h.0)
+    | inr e ↦ elim (choice w (codes "arg0") (Arg 0) r _ e) [
+      | inl h ↦ named_arg w 0 r (omega arith) h.0 h.1
+      | inr e ↦ elim (choice w (codes "arg1") (Arg 1) r _ e) [
+        | inl h ↦ named_arg w 1 r (omega arith) h.0 h.1
+        | inr e ↦ elim (choice w (codes "arg2") (Arg 2) r _ e) [
+          | inl h ↦ named_arg w 2 r (omega arith) h.0 h.1
+          | inr e ↦ elim (choice w (codes "arg3") (Arg 3) r None e) [
+            | inl h ↦ named_arg w 3 r (omega arith) h.0 h.1
+            | inr e ↦ cc
+          ]
+        ]
+      ]
+    ]
+  ]
+]
 
 -- the facts of a term of one word
 pub record IsLeaf (w : List ℕ) (t : Tree ℕ Place) : Type 0 where
@@ -83,18 +89,21 @@ symbol_found w t e =
 pub leaf_found : (w : List ℕ) (t : Tree ℕ Place) → leaf_in w ≡ Some t → IsLeaf w t
 unfolding leaf_in
 leaf_found w t e = elim (either (option_map (λ r. Leaf (InReg r)) (reg_named w)) _ t e) [
-    inl e ↦
+  | inl e ↦
       let read = mapped (λ r. Leaf (InReg r)) (reg_named w) t e in
       let facts = reg_found w read.0 read.1 in
       subst (IsLeaf w) read.2 (record { numbers = facts.0; text = facts.1; flat = omega arith })
   | inr e ↦ elim (either (virt_in w) _ t e) [
-    inl e ↦ virt_found w t e
-  | inr e ↦ elim (either (symbol_in w) _ t e) [
-    inl e ↦ symbol_found w t e
-  | inr e ↦
-      let read = mapped Const (const_in w) t e in
-      let facts = const_found w read.0 read.1 in
-      subst (IsLeaf w) read.2 (record { numbers = facts.0; text = facts.1; flat = omega arith }) ] ] ]
+    | inl e ↦ virt_found w t e
+    | inr e ↦ elim (either (symbol_in w) _ t e) [
+      | inl e ↦ symbol_found w t e
+      | inr e ↦
+          let read = mapped Const (const_in w) t e in
+          let facts = const_found w read.0 read.1 in
+          subst (IsLeaf w) read.2 (record { numbers = facts.0; text = facts.1; flat = omega arith })
+    ]
+  ]
+]
 
 -- a word that begins as a constant does is no register and no symbol
 const_first : (w : List ℕ) → 45 ≤ get_or w 0 0 → get_or w 0 0 ≤ 57 → leaf_in w ≡ option_map Const (const_in w)
@@ -110,16 +119,18 @@ const_first (b ∷ ds) low high =
   where
     other : (b k : ℕ) → b < k → (b == k) ≡ false
     other b k h = grind (arith, nat_tests)
+
     above : (b k : ℕ) → k < b → (b == k) ≡ false
     above b k h = grind (arith, nat_tests)
 
 -- the first byte of a constant's text
 const_range : (c : ℕ) → c < 2 ^ 32 → (45 ≤ get_or (const_text c) 0 0) × (get_or (const_text c) 0 0 ≤ 57)
 const_range c h = elim (halves c) [
-    inl low ↦
+  | inl low ↦
       let first = head_digit (decimal c) (decimal_digits c h) (decimal_some c h) in
       rw (low_text c low) (omega (arith, first.0), first.1)
-  | inr high ↦ rw (high_text c high h) (omega arith, omega arith) ]
+  | inr high ↦ rw (high_text c high h) (omega arith, omega arith)
+]
 
 const_leaf : (c : ℕ) → c < 2 ^ 32 → leaf_in (const_text c) ≡ Some (Const c)
 const_leaf c h =
@@ -154,8 +165,9 @@ decimal_in_word n h = digits_in_word (decimal n) (decimal_digits n h)
 
 const_in_word : (c : ℕ) → c < 2 ^ 32 → list_all in_word (const_text c) ≡ true
 const_in_word c h = elim (halves c) [
-    inl low ↦ rw (low_text c low) (decimal_in_word c h)
-  | inr high ↦ rw (high_text c high h) (decimal_in_word (2 ^ 32 - c) (omega arith)) ]
+  | inl low ↦ rw (low_text c low) (decimal_in_word c h)
+  | inr high ↦ rw (high_text c high h) (decimal_in_word (2 ^ 32 - c) (omega arith))
+]
 
 place_in_word : (p : Place) → IsPlace p → list_all in_word (place_text p) ≡ true
 place_in_word (InReg (Virt n)) h = decimal_in_word n h
@@ -168,24 +180,33 @@ place_in_word (AtSym s) h = decimal_in_word s.0 h
 pub operator_found : (w : List ℕ) (o : Bin) → operator_in w ≡ Some o → w ≡ bin_text o
 unfolding operator_in
 operator_found w o e = elim (choice w (codes "+") Add o _ e) [
-    inl h ↦ h.0 ∙ ap bin_text h.1
+  | inl h ↦ h.0 ∙ ap bin_text h.1
   | inr e ↦ elim (choice w (codes "-") Sub o _ e) [
-    inl h ↦ h.0 ∙ ap bin_text h.1
-  | inr e ↦ elim (choice w (codes "*") Mul o _ e) [
-    inl h ↦ h.0 ∙ ap bin_text h.1
-  | inr e ↦ elim (choice w (codes "&") And o _ e) [
-    inl h ↦ h.0 ∙ ap bin_text h.1
-  | inr e ↦ elim (choice w (codes "|") Or o _ e) [
-    inl h ↦ h.0 ∙ ap bin_text h.1
-  | inr e ↦ elim (choice w (codes "^") Xor o _ e) [
-    inl h ↦ h.0 ∙ ap bin_text h.1
-  | inr e ↦ elim (choice w (codes "<<") Shl o _ e) [
-    inl h ↦ h.0 ∙ ap bin_text h.1
-  | inr e ↦ elim (choice w (codes ">>") Sar o _ e) [
-    inl h ↦ h.0 ∙ ap bin_text h.1
-  | inr e ↦ elim (choice w (codes ">>>") Shr o None e) [
-    inl h ↦ h.0 ∙ ap bin_text h.1
-  | inr e ↦ cc ] ] ] ] ] ] ] ] ]
+    | inl h ↦ h.0 ∙ ap bin_text h.1
+    | inr e ↦ elim (choice w (codes "*") Mul o _ e) [
+      | inl h ↦ h.0 ∙ ap bin_text h.1
+      | inr e ↦ elim (choice w (codes "&") And o _ e) [
+        | inl h ↦ h.0 ∙ ap bin_text h.1
+        | inr e ↦ elim (choice w (codes "|") Or o _ e) [
+          | inl h ↦ h.0 ∙ ap bin_text h.1
+          | inr e ↦ elim (choice w (codes "^") Xor o _ e) [
+            | inl h ↦ h.0 ∙ ap bin_text h.1
+            | inr e ↦ elim (choice w (codes "<<") Shl o _ e) [
+              | inl h ↦ h.0 ∙ ap bin_text h.1
+              | inr e ↦ elim (choice w (codes ">>") Sar o _ e) [
+                | inl h ↦ h.0 ∙ ap bin_text h.1
+                | inr e ↦ elim (choice w (codes ">>>") Shr o None e) [
+                  | inl h ↦ h.0 ∙ ap bin_text h.1
+                  | inr e ↦ cc
+                ]
+              ]
+            ]
+          ]
+        ]
+      ]
+    ]
+  ]
+]
 
 pub operator_again : (o : Bin) → operator_in (bin_text o) ≡ Some o
 unfolding operator_in

@@ -85,14 +85,15 @@ unfolding number_in
 number_found ds n e =
     let value : ℕ = digits_value 10 ds in
     elim (chosen ((list_all is_digit ds && begins_well ds) && nat_lt (digits_value 10 ds) (2 ^ 32)) (Some (digits_value 10 ds)) None (Some n) e) [
-      inl h ↦
-        let parts = both (list_all is_digit ds && begins_well ds) (nat_lt (digits_value 10 ds) (2 ^ 32)) h.0 in
-        let front = both (list_all is_digit ds) (begins_well ds) parts.0 in
-        let size : digits_value 10 ds < 2 ^ 32 = is_below (digits_value 10 ds) (2 ^ 32) parts.1 in
-        let same : digits_value 10 ds ≡ n = cc in
-        let text : decimal (digits_value 10 ds) ≡ ds = decimal-digits_value own ds front.0 (some_digit ds front.1) (one_zero ds front.1) (word_size (digits_value 10 ds) size) in
-        (subst (λ (k : ℕ). k < 2 ^ 32) same size, sym text ∙ ap decimal same)
-    | inr h ↦ cc ]
+      | inl h ↦
+          let parts = both (list_all is_digit ds && begins_well ds) (nat_lt (digits_value 10 ds) (2 ^ 32)) h.0 in
+          let front = both (list_all is_digit ds) (begins_well ds) parts.0 in
+          let size : digits_value 10 ds < 2 ^ 32 = is_below (digits_value 10 ds) (2 ^ 32) parts.1 in
+          let same : digits_value 10 ds ≡ n = cc in
+          let text : decimal (digits_value 10 ds) ≡ ds = decimal-digits_value own ds front.0 (some_digit ds front.1) (one_zero ds front.1) (word_size (digits_value 10 ds) size) in
+          (subst (λ (k : ℕ). k < 2 ^ 32) same size, sym text ∙ ap decimal same)
+      | inr h ↦ cc
+    ]
 
 -- a decimal is read as its number
 pub number_again : (n : ℕ) → n < 2 ^ 32 → number_in (decimal n) ≡ Some n
@@ -168,24 +169,27 @@ const_again c h = elim (halves c) [ inl low ↦ low_again c h low | inr high ↦
     low_again c h low =
         let first = head_digit (decimal c) (decimal_digits c h) (decimal_some c h) in
         ap const_in (low_text c low) ∙ first_of_const (decimal c) first.0 ∙ ap (λ (r : Option ℕ). r >>= positive_in) (number_again c h) ∙ rw (below c (2 ^ 31) low) refl
+
     high_again : (c : ℕ) → c < 2 ^ 32 → 2 ^ 31 ≤ c → const_in (const_text c) ≡ Some c
     high_again c h high =
         ap const_in (high_text c high h) ∙ ap (λ (r : Option ℕ). r >>= negative_in) (number_again (2 ^ 32 - c) (omega arith)) ∙ negative_size c high h
 
 positive_found : (m c : ℕ) → positive_in m ≡ Some c → (m < 2 ^ 31) × (m ≡ c)
 positive_found m c e = elim (chosen (nat_lt m (2 ^ 31)) (Some m) None (Some c) e) [
-    inl h ↦ (is_below m (2 ^ 31) h.0, cc)
-  | inr h ↦ cc ]
+  | inl h ↦ (is_below m (2 ^ 31) h.0, cc)
+  | inr h ↦ cc
+]
 
 negative_found : (m c : ℕ) → m < 2 ^ 32 → negative_in m ≡ Some c → (2 ^ 31 ≤ c) × (c < 2 ^ 32) × (m ≡ 2 ^ 32 - c)
 negative_found m c size e = elim (chosen (nat_lt 0 m && nat_le m (2 ^ 31)) (Some (2 ^ 32 - m)) None (Some c) e) [
-    inl h ↦
+  | inl h ↦
       let parts = both (nat_lt 0 m) (nat_le m (2 ^ 31)) h.0 in
       let some : 0 < m = is_below 0 m parts.0 in
       let few : m ≤ 2 ^ 31 = is_at_most m (2 ^ 31) parts.1 in
       let same : 2 ^ 32 - m ≡ c = cc in
       (omega (arith, some, few, same), omega (arith, some, few, same), omega (arith, some, few, same))
-  | inr h ↦ cc ]
+  | inr h ↦ cc
+]
   where
     is_at_most : (n k : ℕ) → nat_le n k ≡ true → n ≤ k
     is_at_most n k h = grind (arith, nat_tests)
@@ -195,7 +199,7 @@ pub const_found : (w : List ℕ) (c : ℕ) → const_in w ≡ Some c → (c < 2 
 unfolding const_in
 const_found [] c e = cc
 const_found (b ∷ ds) c e = elim (chosen (b == 45) (number_in ds >>= negative_in) (number_in (b ∷ ds) >>= positive_in) (Some c) e) [
-    inl h ↦
+  | inl h ↦
       let read = bound negative_in (number_in ds) c h.1 in
       let number = number_found ds read.0 read.1 in
       let facts = negative_found read.0 c number.0 read.2 in
@@ -205,7 +209,8 @@ const_found (b ∷ ds) c e = elim (chosen (b == 45) (number_in ds >>= negative_i
       let number = number_found (b ∷ ds) read.0 read.1 in
       let facts = positive_found read.0 c read.2 in
       let low : c < 2 ^ 31 = subst (λ (k : ℕ). k < 2 ^ 31) facts.1 facts.0 in
-      (omega (arith, low), number.1 ∙ ap decimal facts.1 ∙ sym (low_text c low)) ]
+      (omega (arith, low), number.1 ∙ ap decimal facts.1 ∙ sym (low_text c low))
+]
   where
     same_byte : (a b : ℕ) → (a == b) ≡ true → a ≡ b
     same_byte a b h = grind (arith, nat_tests)

@@ -32,8 +32,9 @@ record IsWhole (p : Seen (Tree ℕ Place)) (t : Tree ℕ Place) : Type 0 where
 whole_found : (p : Seen (Tree ℕ Place)) (t : Tree ℕ Place) → whole p ≡ Some t → IsWhole p t
 unfolding whole
 whole_found (u, []) t e = elim (chosen (nat_le (tree_size u) 64) (Some u) None (Some t) e) [
-    inl h ↦ let same : u ≡ t = cc in subst (IsWhole (u, [])) same (record { tree = refl; rest = refl; size = is_at_most (tree_size u) 64 h.0 })
-  | inr h ↦ cc ]
+  | inl h ↦ let same : u ≡ t = cc in subst (IsWhole (u, [])) same (record { tree = refl; rest = refl; size = is_at_most (tree_size u) 64 h.0 })
+  | inr h ↦ cc
+]
 whole_found (u, b ∷ bs) t e = cc
 
 -- what is read from a whole text has it as its text
@@ -43,12 +44,14 @@ text_found s t e =
     let read = bound whole (term_in 16 s) t e in
     let facts = term_found 16 s read.0 read.1 in
     let end = whole_found read.0 t read.2 in
-    let text : s ≡ term_text read.0.0 = facts.text ∙ ap (λ (r : List ℕ). term_text read.0.0 ++ r) end.rest ∙ append_none (term_text read.0.0) in
-    (record {
-      numbers = subst HasNumbers end.tree facts.numbers;
-      size = end.size;
-      depth = subst (λ (u : Tree ℕ Place). tree_depth u ≤ 16) end.tree facts.depth;
-    }, text ∙ ap term_text end.tree)
+    let text : s ≡ term_text read.0.0 = facts.text ∙ ap (λ (r : List ℕ). term_text read.0.0 ++ r) end.rest ∙ append_none (term_text read.0.0) in (
+      record {
+        numbers = subst HasNumbers end.tree facts.numbers;
+        size = end.size;
+        depth = subst (λ (u : Tree ℕ Place). tree_depth u ≤ 16) end.tree facts.depth;
+      },
+      text ∙ ap term_text end.tree,
+    )
 
 alone : (t : Tree ℕ Place) (d : ℕ) → HasNumbers t → tree_depth t ≤ d → term_in d (term_text t) ≡ Some (t, [])
 alone t d n h = ap (term_in d) (sym (append_none (term_text t))) ∙ term_again t d [] n h refl

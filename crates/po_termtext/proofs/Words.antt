@@ -25,8 +25,9 @@ pub behind_found : (mark text rest : List ℕ) → behind mark text ≡ Some res
 behind_found [] text rest e = cc
 behind_found (c ∷ cs) [] rest e = cc
 behind_found (c ∷ cs) (b ∷ bs) rest e = elim (chosen (b == c) (behind cs bs) None (Some rest) e) [
-    inl h ↦ ap (λ (x : ℕ). x ∷ bs) (same_number b c h.0) ∙ ap (λ (r : List ℕ). c ∷ r) (behind_found cs bs rest h.1)
-  | inr h ↦ cc ]
+  | inl h ↦ ap (λ (x : ℕ). x ∷ bs) (same_number b c h.0) ∙ ap (λ (r : List ℕ). c ∷ r) (behind_found cs bs rest h.1)
+  | inr h ↦ cc
+]
 
 none_behind : (mark text : List ℕ) (r : Option (List ℕ)) → behind mark text ≡ r → ((rest : List ℕ) → text ≢ mark ++ rest) → None ≡ r
 none_behind mark text None e h = refl

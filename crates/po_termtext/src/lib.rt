@@ -10,3 +10,6 @@ mod word;
 
 pub use print::{print_instr, print_term};
 pub use read::{one_term_a_text, read_term};
+
+#[cfg(test)]
+mod tests;

@@ -35,8 +35,7 @@ pub fn read_term(alloc: Global, text: &[u8]) -> Result<Option<Term>, OutOfMemory
 /// A text is that of at most one term, whatever its size and depth (docs/LANGUAGE.md, "Term text").
 pub fn one_term_a_text()
     ensures { (t u : Tree ℕ Place) → HasNumbers t → HasNumbers u → term_text t ≡ term_text u → t ≡ u }
-{
-}
+{}
 
 #[tactic(auto, unfolding(crate::specs::Reading::text_in))]
 fn read_text(alloc: Global, text: &[u8]) -> Result<Option<Term>, OutOfMemory>
@@ -114,7 +113,10 @@ fn leaf_at(text: &[u8]) -> Result<Parsed<'_>, Refusal>
 {
     let word = first_word(text);
     match leaf(word.word) {
-        Some(term) => Ok(Parsed { term, rest: word.rest }),
+        Some(term) => Ok(Parsed {
+            term,
+            rest: word.rest,
+        }),
         None => Err(Refusal::NoTerm),
     }
 }
@@ -144,7 +146,10 @@ fn binary<'a>(alloc: Global, op: Bin, left: Term, right: Parsed<'a>) -> Result<P
     let rest = expect(b")", right.rest)?;
     let left = boxed(alloc, left)?;
     let right = boxed(alloc, right.term)?;
-    Ok(Parsed { term: Term::Bin(op, left, right), rest })
+    Ok(Parsed {
+        term: Term::Bin(op, left, right),
+        rest,
+    })
 }
 
 /// A term of at most this depth at the front of a text.
