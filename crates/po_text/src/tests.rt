@@ -1,7 +1,8 @@
 use crate::{
-    Got, MemSink, MemSource, Put, ReadRefusal, Sink, Source, Span, StdSink, StdSource, WriteFault,
+    Got, MemSink, MemSource, ReadRefusal, Sink, Source, Span, StdSink, StdSource, WriteFault,
     read_all, read_number, split_line, write_all,
 };
+use std::alloc::{AllocError, Global};
 use std::io;
 use std::io::{ErrorKind, Read};
 use std::test::Fail;
@@ -27,11 +28,16 @@ impl Read for Flaky {
     }
 }
 
+/// A source of two lines, three bytes a call, which fails at the listed calls.
+fn text(alloc: Global, fail: &[u64]) -> Result<MemSource, AllocError> {
+    let bytes = b"a\nbcdef".to_vec(alloc)?;
+    Ok(MemSource::new(bytes, 3, fail.to_vec(alloc)?))
+}
+
 #[test]
 fn source_in_memory(rt: HostRuntime) -> Result<(), Fail> {
-    let alloc = rt.alloc();
     // Calls 2 and 4 fail; the others go on where the source stands.
-    let mut source = MemSource::new(b"a\nbcdef".to_vec(alloc)?, 3, [2, 4].to_vec(alloc)?);
+    let mut source = text(rt.alloc(), &[2, 4])?;
     let mut buf = [0u8; 4];
     let answers = [
         (Got::Count(3), b"a\nb\0"),
@@ -48,87 +54,92 @@ fn source_in_memory(rt: HostRuntime) -> Result<(), Fail> {
     Ok(())
 }
 
+/// The refusal of a whole text with this limit.
+fn refusal(alloc: Global, limit: usize) -> Result<Option<ReadRefusal>, AllocError>
+    requires { limit < 100 }
+{
+    let mut source = text(alloc, &[])?;
+    Ok(read_all(alloc, &mut source, limit).err())
+}
+
 #[test]
-fn whole_texts(rt: HostRuntime) -> Result<(), Fail> {
-    let alloc = rt.alloc();
-    let mut source = MemSource::new(b"a\nbcdef".to_vec(alloc)?, 3, [2].to_vec(alloc)?);
-    let fault = read_all(alloc, &mut source, 9);
-    assert_eq!(rt; fault.err(), Some(ReadRefusal::ReadFault));
-    assert_eq!(rt;
-        read_all(alloc, &mut source, 9)?.as_slice(),
-        b"cdef".as_slice()
-    );
+fn texts_too_long(rt: HostRuntime) -> Result<(), Fail> {
     // The first byte past the limit has this place.
     let places = [(0, 1, 1), (1, 1, 2), (2, 2, 1), (6, 2, 5)];
     for (limit, line, col) in places {
-        let mut source = MemSource::new(b"a\nbcdef".to_vec(alloc)?, 3, Vec::new(alloc));
-        let refusal = read_all(alloc, &mut source, limit).err();
-        assert_eq!(rt;
-            refusal,
-            Some(ReadRefusal::TooLong { line, col }),
-            "at {limit}"
-        );
+        let wanted = ReadRefusal::TooLong { line, col };
+        assert_eq!(rt; refusal(rt.alloc(), limit)?, Some(wanted), "at {limit}");
     }
-    let mut source = MemSource::new(b"a\nbcdef".to_vec(alloc)?, 3, Vec::new(alloc));
-    assert_eq!(rt;
-        read_all(alloc, &mut source, 7)?.as_slice(),
-        b"a\nbcdef".as_slice()
-    );
-    let message = format!(in alloc; "{}", ReadRefusal::TooLong { line: 1, col: 2 })?;
-    assert_eq!(rt; message.as_str(), "TooLong");
+    assert_eq!(rt; refusal(rt.alloc(), 7)?, None);
+    Ok(())
+}
+
+/// All bytes of a source, after a read that meets its fault.
+fn read_twice<S: Source>(alloc: Global, mut source: S) -> Result<Vec<u8>, ReadRefusal>
+where
+    S: Drop,
+{
+    match read_all(alloc, &mut source, 9) {
+        Err(ReadRefusal::ReadFault) => read_all(alloc, &mut source, 9),
+        other => other,
+    }
+}
+
+#[test]
+fn texts_behind_a_fault(rt: HostRuntime) -> Result<(), Fail> {
+    let alloc = rt.alloc();
+    let rest = read_twice(alloc, text(alloc, &[2])?)?;
+    assert_eq!(rt; rest.as_slice(), b"cdef".as_slice());
+    let rest = read_twice(alloc, StdSource::new(Flaky { calls: 0 }))?;
+    assert_eq!(rt; rest.as_slice(), b"abc".as_slice());
+    let whole = read_twice(alloc, StdSource::new(b"a b".as_slice()))?;
+    assert_eq!(rt; whole.as_slice(), b"a b".as_slice());
     Ok(())
 }
 
 #[test]
-fn sink_in_memory(rt: HostRuntime) -> Result<(), Fail> {
-    let alloc = rt.alloc();
-    let text = b"0123456789abcdefghij!";
-    // Call 2 fails; the next call goes on.
-    let mut sink = MemSink::new(alloc, 10, [2].to_vec(alloc)?, 64)?;
-    assert_eq!(rt; write_all(&mut sink, text), Err(WriteFault { written: 10 }));
-    assert_eq!(rt; sink.kept(), b"0123456789".as_slice());
-    assert_eq!(rt; write_all(&mut sink, &text[10..]), Ok(()));
-    assert_eq!(rt; sink.kept(), text.as_slice());
-    // The room ends behind 12 bytes.
-    let mut sink = MemSink::new(alloc, 10, Vec::new(alloc), 12)?;
-    assert_eq!(rt; write_all(&mut sink, text), Err(WriteFault { written: 12 }));
-    assert_eq!(rt; sink.kept(), b"0123456789ab".as_slice());
-    assert_eq!(rt; sink.write(b"c"), Put::Failed);
+fn sinks_in_memory(rt: HostRuntime) -> Result<(), Fail> {
+    // The listed call, the room, and how many bytes of the text are written before the fault.
+    let sinks = [(2, 64, Some(10)), (9, 12, Some(12)), (9, 64, None)];
+    for (call, room, written) in sinks {
+        let fail = [call].to_vec(rt.alloc())?;
+        let mut sink = MemSink::new(rt.alloc(), 10, fail, room)?;
+        let fault = write_all(&mut sink, b"0123456789abcdefghij!").err();
+        assert_eq!(rt;
+            fault,
+            written.map(|written| WriteFault { written }),
+            "with {room}"
+        );
+        let kept = written.unwrap_or(21) as usize;
+        assert_eq!(rt; sink.kept().len(), kept, "with {room}");
+    }
     Ok(())
 }
 
 #[test]
-fn readers_and_writers_of_std(rt: HostRuntime) -> Result<(), Fail> {
-    let alloc = rt.alloc();
-    let mut source = StdSource::new(b"a b".as_slice());
-    assert_eq!(rt;
-        read_all(alloc, &mut source, 3)?.as_slice(),
-        b"a b".as_slice()
-    );
-    let mut source = StdSource::new(Flaky { calls: 0 });
-    let fault = read_all(alloc, &mut source, 9);
-    assert_eq!(rt; fault.err(), Some(ReadRefusal::ReadFault));
-    assert_eq!(rt;
-        read_all(alloc, &mut source, 9)?.as_slice(),
-        b"abc".as_slice()
-    );
-    let mut bytes = Vec::new(alloc);
+fn writers_of_std(rt: HostRuntime) -> Result<(), Fail> {
+    let mut bytes = Vec::new(rt.alloc());
     let mut sink = StdSink::new(&mut bytes);
     assert_eq!(rt; write_all(&mut sink, b"a b"), Ok(()));
     assert_eq!(rt; bytes.as_slice(), b"a b".as_slice());
     // A full slice takes 0 bytes, which is a fault.
     let mut room = [0u8; 4];
     let mut sink = StdSink::new(room.as_mut_slice());
-    assert_eq!(rt;
-        write_all(&mut sink, b"abcdef"),
-        Err(WriteFault { written: 4 })
-    );
+    let fault = write_all(&mut sink, b"abcdef");
+    assert_eq!(rt; fault, Err(WriteFault { written: 4 }));
     assert_eq!(rt; room, *b"abcd");
     Ok(())
 }
 
 #[test]
-fn words_and_numbers(rt: HostRuntime) -> Result<(), Fail> {
+fn messages(rt: HostRuntime) -> Result<(), Fail> {
+    let message = format!(in rt.alloc(); "{}", ReadRefusal::TooLong { line: 1, col: 2 })?;
+    assert_eq!(rt; message.as_str(), "TooLong");
+    Ok(())
+}
+
+#[test]
+fn words(rt: HostRuntime) -> Result<(), Fail> {
     let alloc = rt.alloc();
     let lines: [(&str, &[(usize, usize)]); 6] = [
         ("", &[]),
@@ -152,6 +163,11 @@ fn words_and_numbers(rt: HostRuntime) -> Result<(), Fail> {
             );
         }
     }
+    Ok(())
+}
+
+#[test]
+fn numbers(rt: HostRuntime) {
     let numbers = [
         ("", None),
         ("-", None),
@@ -172,5 +188,4 @@ fn words_and_numbers(rt: HostRuntime) -> Result<(), Fail> {
     for (word, number) in numbers {
         assert_eq!(rt; read_number(word.as_bytes()), number, "of {word}");
     }
-    Ok(())
 }
