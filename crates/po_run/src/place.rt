@@ -19,6 +19,7 @@ use po_word::OutOfMemory;
 use std::alloc::Global;
 
 /// Where virtual registers stand, or the first crowded point.
+#[derive(Drop)]
 pub enum Placing {
     /// By the number of the virtual register, the index of its machine register.
     Placed(Vec<u32>),
@@ -123,7 +124,8 @@ fn note_term(term: &Term, point: u32, spans: &mut [Span])
     ensures { spans.new ≡ marked (λ v. tree_reads v (tree_of term.now)) point 0 spans.old }
 {
     match term {
-        Term::Num(_) | Term::Addr(_) => {}
+        Term::Num(_) => {}
+        Term::Addr(_) => {}
         Term::Reg(reg) => note_register(*reg, point, spans),
         Term::Mem(t) | Term::Un(_, t) => note_term(t, point, spans),
         Term::Bin(_, t, u) => {
