@@ -88,13 +88,13 @@ fn copies(alloc: Global, pieces: &[&[u8]]) -> Result<Items<Items<u8>>, AllocErro
 }
 
 fn are_names(pieces: &[&[u8]]) -> bool
-    ensures { result ≡ list_all is_name_text (map now_of pieces.now) }
+    ensures { result ≡ list_all (λ piece. is_name_text piece.now) pieces.now }
 {
     pieces.iter().all(|piece| is_name(piece))
 }
 
 /// The names behind a word, each with a space before it.
-#[tactic(auto, unfolding(crate::specs::Reading::names_in))]
+#[tactic(auto, unfolding(crate::specs::Reading::names_in), using(crate::proofs::Reading::list_all_seen))]
 pub fn names(alloc: Global, line: &[u8], word: &[u8]) -> Result<Items<Items<u8>>, ReadError>
     ensures { Gives (λ ns. ns) result (names_in word.now line.now) }
 {
