@@ -4,7 +4,8 @@ use Rattle.std.specs.Prelude.{◌&&◌, ◌||◌, ◌==◌, not, nat_eq, nat_le,
 use Rattle.std.specs.List.{AllByRecursion, list_all, slice_split, onto_first, join_with_byte, starts_with}
 use Rattle.std.specs.Cmp.Lexicographic.{pointwise}
 use Rattle.std.proofs.lemmas.Bool.{eqb-true, eq-eqb}
-use Rattle.std.proofs.lemmas.Bool.Decides.{nat_tests}
+use Rattle.std.proofs.lemmas.Bool.Decides.{nat_tests, Decides-eqb}
+use Rattle.std.proofs.lemmas.Slice.Eq.{starts_is}
 use Rattle.po_run.specs.Input.{is_name, is_name_byte, begins_name, names_text, text_of}
 use Rattle.po_run.specs.Reading.{◌>>=◌, same, after_word, pieces_of, as_name, name_in, as_names, names_in}
 use Rattle.po_run.proofs.Choices.{and_both, kept, bound, some_is}
@@ -12,16 +13,10 @@ use Rattle.po_run.proofs.Choices.{and_both, kept, bound, some_is}
 -- Behind a word
 
 begins : (word line : List ℕ) → starts_with nat_eq line word ≡ true → line ≡ word ++ drop (length word) line
-begins [] line h = refl
-begins (w ∷ ws) [] h = cc
-begins (w ∷ ws) (b ∷ bs) h =
-    let both = and_both (nat_eq b w) (starts_with nat_eq bs ws) h in
-    let here : b ≡ w = eqb-true b w both.0 in
-    let more = begins ws bs both.1 in cc (here, more)
+begins word line h = (starts_is Decides-eqb line word (starts_with nat_eq line word) refl).0 h
 
 begins_again : (word rest : List ℕ) → starts_with nat_eq (word ++ rest) word ≡ true
-begins_again [] rest = refl
-begins_again (w ∷ ws) rest = rw (eq-eqb w w refl) (begins_again ws rest)
+begins_again word rest = (starts_is Decides-eqb (word ++ rest) word (starts_with nat_eq (word ++ rest) word) refl).1 rest refl
 
 behind_again : (word rest : List ℕ) → drop (length word) (word ++ rest) ≡ rest
 behind_again [] rest = refl

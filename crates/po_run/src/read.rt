@@ -199,3 +199,28 @@ fn input(alloc: Global, lines: &[&[u8]]) -> Result<(Machine, Unit), ReadError>
     }
     Ok((machine, unit))
 }
+
+/// The description and the unit that a text is.
+#[tactic(auto, unfolding(crate::specs::Reading::text_in), using(crate::proofs::Reading::list_all_seen))]
+fn whole(alloc: Global, text: &[u8]) -> Result<(Machine, Unit), ReadError>
+    ensures { Gives (λ x. x) result (text_in text.now) }
+{
+    let lines = pieces(alloc, text, b'\n')?;
+    if !are_short(&lines) {
+        return Err(ReadError::Outside);
+    }
+    input(alloc, &lines)
+}
+
+/// The description and the unit whose printed text this is, or nothing where it is of none
+/// (docs/DESCRIPTION.md, docs/LANGUAGE.md).
+pub fn read_input(alloc: Global, text: &[u8]) -> Result<Option<(Machine, Unit)>, OutOfMemory>
+    ensures found { IfOk result (λ found. IfSome found (λ x. IsInput text.now x.0 x.1)) }
+    ensures none { IfOk result (λ found. IfNone found (IsOutside text.now)) }
+{
+    match whole(alloc, text) {
+        Ok(read) => Ok(Some(read)),
+        Err(ReadError::Outside) => Ok(None),
+        Err(ReadError::Memory) => Err(OutOfMemory),
+    }
+}
