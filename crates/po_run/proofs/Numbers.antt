@@ -75,7 +75,7 @@ pub word_fits : (bs : List ℕ) → word_in bs < 2 ^ 32
 word_fits [] = omega arith
 word_fits (b ∷ bs) = word_cases (b == 45) (2 ^ 32 - digits_value 10 bs % 2 ^ 32) (digits_value 10 (b ∷ bs))
 
-signed_fits : (w : ℕ) → w < 2 ^ 32 → FitsSigned w32 (signed w)
+pub signed_fits : (w : ℕ) → w < 2 ^ 32 → FitsSigned w32 (signed w)
 signed_fits w h = sfits_to_z {w = w32} {n = w} (search rules)
 
 pub number_found : (bs : List ℕ) (w : ℕ) → number_in bs ≡ Some w → (w < 2 ^ 32) × (bs ≡ signed_decimal (signed w))
