@@ -4,9 +4,20 @@
 //! a description and a unit), `Naive`, `Fit`, `Placement`, `Assembly`, `Output`.
 #![tactic(auto)]
 
+mod compile;
+mod emit;
+mod expand;
+mod fit;
 mod limits;
 mod lines;
 pub mod model;
+mod notes;
+mod place;
 mod read;
 mod read_error;
+mod serial;
+mod status;
 mod template;
+
+pub use serial::po_serial;
+pub use status::Status;

@@ -1,0 +1,44 @@
+//! The program `po`: standard input, standard output and standard error, given to the top call.
+#![tactic(auto)]
+
+use po_run::{Status, po_serial};
+use po_text::{StdSink, StdSource};
+use std::env;
+use std::process::ExitCode;
+
+/// The words that the program was started with, without its name. None where memory was refused.
+fn words(rt: &HostRuntime) -> Option<Vec<String>> {
+    let Ok(args) = env::args(rt) else {
+        return None;
+    };
+    let Ok(words) = args.skip(1).collect(rt.alloc()) else {
+        return None;
+    };
+    Some(words)
+}
+
+/// The exit status (docs/PROGRAM.md, "Statuses").
+// ORDER: statuses
+fn exit_status(status: Status) -> u8 {
+    match status {
+        Status::Done => 0,
+        Status::Usage => 2,
+        Status::ReadFault => 3,
+        Status::BadText { .. } => 4,
+        Status::Unrecognised { .. } => 5,
+        Status::TooFew { .. } => 6,
+        Status::WriteFault { .. } => 7,
+        Status::OutOfMemory => 8,
+    }
+}
+
+fn main(rt: HostRuntime) -> ExitCode {
+    let Some(words) = words(&rt) else {
+        return ExitCode::from(exit_status(Status::OutOfMemory));
+    };
+    let mut source = StdSource::new(rt.stdin());
+    let mut sink = StdSink::new(rt.stdout());
+    let mut notes = StdSink::new(rt.stderr());
+    let status = po_serial(rt.alloc(), &words, &mut source, &mut sink, &mut notes);
+    ExitCode::from(exit_status(status))
+}

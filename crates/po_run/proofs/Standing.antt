@@ -1,0 +1,212 @@
+-- The state of placement between two intervals, and what it gives at the end and where no register is free.
+use Rattle.std.proofs.Common.{◌≡◌, ℕ, ◌+◌, ◌<◌, ◌≤◌, List, [], ◌∷◌, ◌++◌, length, get_or, set, map, refl, sym, ap, ◌∙◌, subst, zero, suc, arith, Bool, true, false, cond, ◌&&◌, ◌||◌, ◌==◌, nat_le, replicate, ◌⊎◌, inl, inr, add-zero, zero-add, length-append, get_or-set_same, get_or-set_other}
+use Rattle.std.specs.List.{list_any, count_by, sum_by, All}
+use Rattle.std.proofs.lemmas.Bool.{eq-eqb, ne_eqb, le-leb, lt-leb, cases_lt, cases_eq}
+use Rattle.std.proofs.lemmas.List.{length-set, get_or_push, get_or_append_left, get_or_past, get_or-replicate, length-replicate}
+use Rattle.std.proofs.lemmas.List.Sums.{sum_by-set, sum_by-cons, count_by-le-length}
+use Rattle.std.proofs.lemmas.List.Elements.{All-push}
+use Rattle.po_run.specs.Placement.{Interval, Placed, contains, count_at, IsUncrowded, IsCrowded, is_taken, lowest_from, place_from, machine_of}
+use Rattle.po_run.specs.Spans.{Rising}
+
+-- where register r is free and those from k on below it are taken, it is the lowest from k on
+pub lowest_is : (done : List Placed) (point k m r : ℕ) → k ≤ r → r < k + m → is_taken done point r ≡ false →
+    ((j : ℕ) → k ≤ j → j < r → is_taken done point j ≡ true) → lowest_from done point k m ≡ r
+lowest_is done point k zero r low high free busy = absurd (omega arith)
+lowest_is done point k (suc m) r low high free busy =
+    elim (cases_eq k r) [
+      | inl e ↦ let f : is_taken done point k ≡ false = rw e free in rw (f, e) refl
+      | inr e ↦ rw (busy k (omega arith) (omega arith)) (lowest_is done point (k + 1) m r (omega arith) (omega arith) free (λ j l h. busy j (omega arith) h))
+    ]
+
+-- how many of these numbers reach a point
+abbrev pub reaching : ℕ → List ℕ → ℕ
+reaching q ends = count_by (λ e. nat_le q e) ends
+
+count-cons : {X : Type 0} (p : X → Bool) (x : X) (xs : List X) → count_by p (x ∷ xs) ≡ cond (p x) 1 0 + count_by p xs
+count-cons p x xs = sum_by-cons (λ y. cond (p y) 1 0) x xs
+
+reaching_none : (q n : ℕ) → 1 ≤ q → reaching q (replicate n 0) ≡ 0
+reaching_none q zero h = refl
+reaching_none q (suc n) h = count-cons (λ e. nat_le q e) 0 (replicate n 0) ∙ rw (lt-leb q 0 h, reaching_none q n h) refl
+
+reaching_all : (q : ℕ) (ends : List ℕ) → ((k : ℕ) → k < length ends → q ≤ get_or ends k 0) → reaching q ends ≡ length ends
+reaching_all q [] h = refl
+reaching_all q (e ∷ es) h =
+    let first : q ≤ e = h 0 (omega arith) in
+    let rest : reaching q es ≡ length es = reaching_all q es (λ k l. h (suc k) (omega arith)) in
+    count-cons (λ x. nat_le q x) e es ∙ rw (le-leb q e first) (omega arith)
+
+-- intervals that start later don't contain a point
+later_none : (q m : ℕ) (is : List Interval) → q < m → Rising m is → count_at is q ≡ 0
+later_none q m [] h rising = refl
+later_none q m (i ∷ is) h rising =
+    let a : q < i.start = omega (arith, rising.0) in
+    let rest : count_at is q ≡ 0 = later_none q (i.start + 1) is (omega arith) rising.2 in
+    count-cons (λ (j : Interval). contains j q) i is ∙ rw (lt-leb i.start q a, rest) refl
+
+pub record Standing (n : ℕ) (all left : List Interval) (ends regs : List ℕ) : Type 0 where
+  pub done : List Placed
+  pub now : ℕ
+  pub held : length ends ≡ n
+  pub follows : place_from n done left ≡ place_from n [] all
+  pub total : (q : ℕ) → count_at all q ≡ count_at (map (λ d. d.interval) done) q + count_at left q
+  pub rising : Rising now left
+  pub taken : (q r : ℕ) → now ≤ q → r < n → is_taken done q r ≡ nat_le q (get_or ends r 0)
+  pub counted : (q : ℕ) → now ≤ q → count_at (map (λ d. d.interval) done) q ≡ reaching q ends
+  pub past : (q : ℕ) → q < now → count_at (map (λ d. d.interval) done) q ≤ n
+  pub machines : (v : ℕ) → machine_of done v ≡ get_or regs v 0
+  pub below : All (λ r. r < n) regs
+
+pub standing_begin : (n : ℕ) (is : List Interval) → Rising 1 is → Standing n is is (replicate n 0) []
+standing_begin n is rising = record {
+  done = [];
+  now = 1;
+  held = length-replicate {A = ℕ} n 0;
+  follows = refl;
+  total = λ q. omega arith;
+  rising = rising;
+  taken = λ q r h l. sym (rw (get_or-replicate {A = ℕ} n r 0 0 l) (lt-leb q 0 (omega arith)));
+  counted = λ q h. sym (reaching_none q n h);
+  past = λ q h. omega arith;
+  machines = λ v. sym (get_or_past {X = ℕ} [] v 0 (omega arith));
+  below = λ k d l. absurd (omega arith);
+}
+
+-- an interval that starts at or before a point contains it where it doesn't end before
+contains_from : (i : Interval) (q : ℕ) → i.start ≤ q → contains i q ≡ nat_le q i.finish
+contains_from i q h = rw (le-leb i.start q h) refl
+
+contains_later : (i : Interval) (q : ℕ) → q < i.start → contains i q ≡ false
+contains_later i q h = rw (lt-leb i.start q h) refl
+
+or_nothing : (b : Bool) → (b || false) ≡ b
+or_nothing true = refl
+or_nothing false = refl
+
+-- whether a register is taken once one more interval stands
+taken_next : (i : Interval) (done : List Placed) (ends : List ℕ) (r q k : ℕ) → i.start < q → r < length ends → get_or ends r 0 < i.start →
+    is_taken done q k ≡ nat_le q (get_or ends k 0) →
+    ((r == k) && contains i q || is_taken done q k) ≡ nat_le q (get_or (set ends r i.finish) k 0)
+taken_next i done ends r q k later small free before =
+    elim (cases_eq r k) [
+      | inl e ↦
+          let at : get_or (set ends r i.finish) k 0 ≡ i.finish = rw (← e) (get_or-set_same {A = ℕ} ends r i.finish 0 small) in
+          let past : nat_le q (get_or ends k 0) ≡ false = lt-leb q (get_or ends k 0) (rw (← e) (omega arith)) in
+          rw (eq-eqb r k e, contains_from i q (omega arith), before, past, at) (or_nothing (nat_le q i.finish))
+      | inr n ↦
+          let at : get_or (set ends r i.finish) k 0 ≡ get_or ends k 0 = get_or-set_other {A = ℕ} ends r k i.finish 0 (λ e. n (sym e)) in
+          rw (ne_eqb r k n, before, at) refl
+    ]
+
+-- how many ends reach a point, once the end of a free register is moved
+reaching_set : (ends : List ℕ) (r q f : ℕ) → r < length ends → get_or ends r 0 < q → reaching q (set ends r f) ≡ cond (nat_le q f) 1 0 + reaching q ends
+reaching_set ends r q f small free =
+    let moved : reaching q (set ends r f) + cond (nat_le q (get_or ends r 0)) 1 0 ≡ reaching q ends + cond (nat_le q f) 1 0 = sum_by-set (λ (e : ℕ). cond (nat_le q e) 1 0) ends r f 0 small in
+    let none : nat_le q (get_or ends r 0) ≡ false = lt-leb q (get_or ends r 0) free in
+    let plain = rw none at moved in
+    omega (arith, plain)
+
+same_suc : (a b : ℕ) → (suc a == suc b) ≡ (a == b)
+same_suc a b = elim (cases_eq a b) [
+  | inl e ↦ eq-eqb (suc a) (suc b) (ap suc e) ∙ sym (eq-eqb a b e)
+  | inr n ↦ ne_eqb (suc a) (suc b) (λ e. n (omega (arith, e))) ∙ sym (ne_eqb a b n)
+]
+
+machine_next : (regs : List ℕ) (r v : ℕ) → cond (length regs == v) r (get_or regs v 0) ≡ get_or (regs ++ r ∷ []) v 0
+machine_next [] r zero = refl
+machine_next [] r (suc v) = rw (ne_eqb 0 (suc v) (λ e. absurd (omega (arith, e)))) refl
+machine_next (x ∷ xs) r zero = rw (ne_eqb (length (x ∷ xs)) 0 (λ e. absurd (omega (arith, e)))) refl
+machine_next (x ∷ xs) r (suc v) = rw (same_suc (length xs) v) (machine_next xs r v)
+
+total_next : (all left : List Interval) (i : Interval) (js : List Interval) (q : ℕ) → count_at all q ≡ count_at js q + count_at (i ∷ left) q →
+    count_at all q ≡ count_at (i ∷ js) q + count_at left q
+total_next all left i js q h =
+    let a = count-cons (λ (j : Interval). contains j q) i left in
+    let b = count-cons (λ (j : Interval). contains j q) i js in
+    omega (arith, a, b)
+
+one_at_most : (b : Bool) → cond b 1 0 ≤ 1
+one_at_most true = omega arith
+one_at_most false = omega arith
+
+-- the points up to the start of one more interval are uncrowded
+past_next : (n : ℕ) (i : Interval) (js : List Interval) (ends : List ℕ) (r now q : ℕ) → length ends ≡ n → now ≤ i.start → r < length ends → get_or ends r 0 < i.start →
+    q ≤ i.start → (now ≤ q → count_at js q ≡ reaching q ends) → (q < now → count_at js q ≤ n) → count_at (i ∷ js) q ≤ n
+past_next n i js ends r now q held early small free upto counted past =
+    let one = count-cons (λ (j : Interval). contains j q) i js in
+    elim (cases_lt q i.start) [
+      | inl before ↦
+          let none : contains i q ≡ false = contains_later i q before in
+          let same : ◌≡◌ {A = ℕ} (cond (contains i q) 1 0) 0 = rw none refl in
+          elim (cases_lt q now) [
+            | inl h ↦ let few = past h in omega (arith, one, same)
+            | inr h ↦ let few = counted h in let most = count_by-le-length (λ (e : ℕ). nat_le q e) ends in omega (arith, one, same, few, most)
+          ]
+      | inr at ↦
+          let here : q ≡ i.start = omega arith in
+          let few = counted (omega arith) in
+          let more = reaching_set ends r q q small (omega arith) in
+          let reached : nat_le q q ≡ true = le-leb q q (omega arith) in
+          let grown : ◌≡◌ {A = ℕ} (cond (nat_le q q) 1 0) 1 = rw reached refl in
+          let most = count_by-le-length (λ (e : ℕ). nat_le q e) (set ends r q) in
+          let long = length-set {A = ℕ} ends r q in
+          let at_most : cond (contains i q) 1 0 ≤ 1 = one_at_most (contains i q) in
+          omega (arith, one, few, more, grown, most, long, at_most)
+    ]
+
+pub standing_step : (n : ℕ) (all : List Interval) (i : Interval) (left : List Interval) (ends regs : List ℕ) (r : ℕ) → Standing n all (i ∷ left) ends regs →
+    i.register ≡ length regs → r < length ends → get_or ends r 0 < i.start → ((k : ℕ) → k < r → i.start ≤ get_or ends k 0) →
+    Standing n all left (set ends r i.finish) (regs ++ r ∷ [])
+standing_step n all i left ends regs r st number small free busy =
+    let early : st.now ≤ i.start = st.rising.0 in
+    let held : length ends ≡ n = st.held in
+    let open_r : is_taken st.done i.start r ≡ false = st.taken i.start r early (omega arith) ∙ lt-leb i.start (get_or ends r 0) free in
+    let lowest : lowest_from st.done i.start 0 n ≡ r = lowest_is st.done i.start 0 n r (omega arith) (omega arith) open_r
+    (λ k a b. st.taken i.start k early (omega arith) ∙ le-leb i.start (get_or ends k 0) (busy k b)) in
+    record {
+      done = record { interval = i; machine = r } ∷ st.done;
+      now = i.start + 1;
+      held = length-set {A = ℕ} ends r i.finish ∙ held;
+      follows = rw lowest at st.follows;
+      total = λ q. total_next all left i (map (λ (d : Placed). d.interval) st.done) q (st.total q);
+      rising = st.rising.2;
+      taken = λ q k h l. taken_next i st.done ends r q k (omega arith) small free (st.taken q k (omega arith) l);
+      counted = λ q h. count-cons (λ (j : Interval). contains j q) i (map (λ (d : Placed). d.interval) st.done) ∙
+          rw (contains_from i q (omega arith), st.counted q (omega arith)) (sym (reaching_set ends r q i.finish small (omega arith)));
+      past = λ q h. past_next n i (map (λ (d : Placed). d.interval) st.done) ends r st.now q held early small free (omega arith) (st.counted q) (st.past q);
+      machines = λ v. rw (number, st.machines v) (machine_next regs r v);
+      below = All-push (λ r. r < n) regs r st.below (omega arith);
+    }
+
+-- at the end
+pub standing_uncrowded : (n : ℕ) (all : List Interval) (ends regs : List ℕ) → Standing n all [] ends regs → IsUncrowded n all
+standing_uncrowded n all ends regs st q =
+    elim (cases_lt q st.now) [
+      | inl h ↦ omega (arith, st.total q, st.past q h)
+      | inr h ↦ omega (arith, st.total q, st.counted q h, count_by-le-length (λ (e : ℕ). nat_le q e) ends)
+    ]
+
+pub standing_machines : (n : ℕ) (all : List Interval) (ends regs : List ℕ) → Standing n all [] ends regs → (v : ℕ) → machine_of (place_from n [] all) v ≡ get_or regs v 0
+standing_machines n all ends regs st v = rw (← st.follows) (st.machines v)
+
+-- where no register is free
+pub standing_crowded : (n : ℕ) (all : List Interval) (i : Interval) (left : List Interval) (ends regs : List ℕ) → Standing n all (i ∷ left) ends regs →
+    ((k : ℕ) → k < length ends → i.start ≤ get_or ends k 0) → IsCrowded n all i.start (n + 1)
+standing_crowded n all i left ends regs st busy =
+    let early : st.now ≤ i.start = st.rising.0 in
+    let ordered : i.start ≤ i.finish = st.rising.1 in
+    let full : reaching i.start ends ≡ length ends = reaching_all i.start ends busy in
+    let here : contains i i.start ≡ true = contains_from i i.start (omega arith) ∙ le-leb i.start i.finish ordered in
+    let one : count_at (i ∷ left) i.start ≡ cond (contains i i.start) 1 0 + count_at left i.start = count-cons (λ (j : Interval). contains j i.start) i left in
+    let single : ◌≡◌ {A = ℕ} (cond (contains i i.start) 1 0) 1 = rw here refl in
+    let later : count_at left i.start ≡ 0 = later_none i.start (i.start + 1) left (omega arith) st.rising.2 in
+    record {
+      count = omega (arith, st.total i.start, st.counted i.start early, full, one, single, later, st.held);
+      over = omega arith;
+      first = λ q h.
+          let none : count_at (i ∷ left) q ≡ 0 = later_none q i.start (i ∷ left) h (omega arith, ordered, st.rising.2) in
+          elim (cases_lt q st.now) [
+            | inl l ↦ omega (arith, st.total q, st.past q l, none)
+            | inr l ↦ omega (arith, st.total q, st.counted q l, count_by-le-length (λ (e : ℕ). nat_le q e) ends, none, st.held)
+          ];
+    }

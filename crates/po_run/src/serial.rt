@@ -1,0 +1,143 @@
+//! The top call: words, reading, compiling, writing, in this order, and what is told of the end.
+//!
+//! Nothing is written before the whole output is made, so every refusal but a write fault leaves the sink as it was.
+ghost use Rattle.std.specs.Prelude.{◌≡◌, ◌↔◌, ◌<◌, ◌-◌, ◌^◌, codes, IsTrue};
+ghost use Rattle.po_text.specs.Causes.{after_known};
+ghost use Rattle.po_run.specs.Notes.{note_line};
+ghost use Rattle.po_run.specs.Statuses.{IsNaive, OnDone, OnUsage, OnReadFault, OnBadText, OnUnrecognised, OnTooFew, OnWriteFault, WritesNothing, IsComplete};
+
+use crate::Status;
+use crate::compile::{Refusal, compile};
+use crate::notes::tell;
+use po_text::{Kind, ReadRefusal, Sink, Source, read_all, write_all};
+use std::alloc::Global;
+
+/// How many bytes an input may have.
+const LIMIT: usize = 4194304;
+
+fn is_naive_word(word: &str) -> bool
+    ensures { IsTrue result ↔ (word.now ≡ codes "naive") }
+{
+    word == "naive"
+}
+
+fn is_naive(words: &[String]) -> bool
+    ensures { IsTrue result ↔ IsNaive words.now }
+{
+    match words {
+        [word] => is_naive_word(word.as_str()),
+        _ => false,
+    }
+}
+
+/// All but what is told on the notes.
+fn run<S: Source, K: Sink>(
+    alloc: Global,
+    words: &[String],
+    source: &mut S,
+    sink: &mut K,
+) -> Status
+    ensures done { OnDone result (S.left source.old) (S.left source.new) (K.kept sink.old) (K.kept sink.new) }
+    ensures usage { (result ≡ Status.Usage) ↔ (IsNaive words.now → ⊥) }
+    ensures unread { OnUsage result (S.left source.old) (S.left source.new) }
+    ensures read_fault { OnReadFault result (S.faults source.old) (S.faults source.new) }
+    ensures bad_text { OnBadText result (S.left source.old) (S.left source.new) }
+    ensures unrecognised { OnUnrecognised result (S.left source.old) (S.left source.new) }
+    ensures too_few { OnTooFew result (S.left source.old) (S.left source.new) }
+    ensures write_fault { OnWriteFault result (S.left source.old) (S.left source.new) (K.faults sink.old) (K.faults sink.new) (K.kept sink.old) (K.kept sink.new) }
+    ensures written { WritesNothing result (K.faults sink.old) (K.faults sink.new) (K.kept sink.old) (K.kept sink.new) }
+{
+    if !is_naive(words) {
+        return Status::Usage;
+    }
+    let text = match read_all(alloc, source, LIMIT) {
+        Ok(text) => text,
+        Err(ReadRefusal::ReadFault) => return Status::ReadFault,
+        Err(ReadRefusal::TooLong { line, col }) => {
+            return Status::BadText {
+                line,
+                col,
+                kind: Kind::TooMany,
+            };
+        }
+        Err(ReadRefusal::OutOfMemory) => return Status::OutOfMemory,
+    };
+    let out = match compile(alloc, &text) {
+        Ok(out) => out,
+        Err(Refusal::Outside) => {
+            return Status::BadText {
+                line: 1,
+                col: 1,
+                kind: Kind::Word,
+            };
+        }
+        Err(Refusal::Unfit(index)) => {
+            return Status::Unrecognised {
+                unit: 0,
+                block: 0,
+                index,
+            };
+        }
+        Err(Refusal::Short { point, needed }) => {
+            return Status::TooFew {
+                unit: 0,
+                point,
+                needed,
+            };
+        }
+        Err(Refusal::Memory) => return Status::OutOfMemory,
+    };
+    match write_all(sink, &out) {
+        Ok(()) => Status::Done,
+        Err(fault) => Status::WriteFault {
+            written: fault.written,
+        },
+    }
+}
+
+/// Does all that the program does, by its words without its name, over the three streams that it is given.
+///
+/// It waits for nobody and returns. docs/PROGRAM.md states the modes, the input, the statuses and the limits.
+pub fn po_serial<S: Source, K: Sink, N: Sink>(
+    alloc: Global,
+    words: &[String],
+    source: &mut S,
+    sink: &mut K,
+    notes: &mut N,
+) -> Status
+    // The source was read to its end, and what the sink keeps grew by exactly the output.
+    ensures done { OnDone result (S.left source.old) (S.left source.new) (K.kept sink.old) (K.kept sink.new) }
+
+    // Exactly where the words are none of a mode; then nothing is read.
+    ensures usage { (result ≡ Status.Usage) ↔ (IsNaive words.now → ⊥) }
+    ensures unread { OnUsage result (S.left source.old) (S.left source.new) }
+
+    // Exactly where the source's faults rose.
+    ensures read_fault { OnReadFault result (S.faults source.old) (S.faults source.new) }
+
+    // The text is outside the grammar, or longer than the limit.
+    ensures bad_text { OnBadText result (S.left source.old) (S.left source.new) }
+
+    // The first instruction that no entry fits.
+    ensures unrecognised { OnUnrecognised result (S.left source.old) (S.left source.new) }
+
+    // Every instruction is recognised, and this is the first crowded point.
+    ensures too_few { OnTooFew result (S.left source.old) (S.left source.new) }
+
+    // Exactly where the sink's faults rose; what it keeps grew by the first `written` bytes of the output.
+    ensures write_fault { OnWriteFault result (S.left source.old) (S.left source.new) (K.faults sink.old) (K.faults sink.new) (K.kept sink.old) (K.kept sink.new) }
+
+    // After every answer but Done and WriteFault the sink has what it had.
+    ensures written { WritesNothing result (K.faults sink.old) (K.faults sink.new) (K.kept sink.old) (K.kept sink.new) }
+
+    // Where the grammar holds, each instruction is recognised, no point is crowded and no fault rose: Done, or memory was refused.
+    ensures complete { IsComplete words.now result (S.left source.old) (S.faults source.old) (S.faults source.new) (K.faults sink.old) (K.faults sink.new) }
+
+    // Where the notes don't fail, they grow by exactly the line of the status.
+    ensures notes { N.faults notes.new ≡ N.faults notes.old → N.faults notes.old < 2 ^ 64 - 1
+        → N.kept notes.new ≡ after_known (N.kept notes.old) (note_line result) }
+{
+    let status = run(alloc, words, source, sink);
+    tell(notes, status);
+    status
+}

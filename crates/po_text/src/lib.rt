@@ -1,0 +1,22 @@
+//! Bytes that come in and go out, and the words and numbers in them. A source and a sink say which bytes they still
+//! have or have kept, and count their faults, so that each answer other than success has its cause. Nothing here
+//! knows what the bytes mean: the kinds of faults of a text stand here for the crates that read one.
+#![tactic(auto)]
+
+mod fault;
+mod memory;
+mod number;
+mod sink;
+mod source;
+mod standard;
+#[cfg(test)]
+mod tests;
+mod words;
+
+pub use fault::{Kind, OutOfMemory, ReadRefusal, Span, Spot, TextRefusal, WriteFault};
+pub use memory::{MemSink, MemSource};
+pub use number::read_number;
+pub use sink::{Put, Sink, write_all};
+pub use source::{Got, Source, read_all};
+pub use standard::{StdSink, StdSource};
+pub use words::split_line;
