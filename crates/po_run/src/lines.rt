@@ -8,7 +8,7 @@ ghost use Rattle.std.specs.List.{list_all};
 ghost use Rattle.std.specs.Option.{option_copied};
 ghost use Rattle.std.specs.Fmt.{signed_decimal};
 ghost use Rattle.po_run.specs.Input.{is_name as is_name_text, is_name_byte, begins_name};
-ghost use Rattle.po_run.specs.Reading.{Gives, now_of, pieces_of, after_word, same, name_in, names_in, number_in};
+ghost use Rattle.po_run.specs.Reading.{Gives, now_of, pieces_of, after_word, same, name_in, as_names, names_in, number_in};
 
 use crate::read_error::ReadError;
 use sqlite_items::Items;
@@ -88,9 +88,26 @@ fn copies(alloc: Global, pieces: &[&[u8]]) -> Result<Items<Items<u8>>, AllocErro
 }
 
 fn are_names(pieces: &[&[u8]]) -> bool
-    ensures { result ≡ list_all is_name_text (map now_of pieces.now) }
+    ensures { result ≡ list_all (λ piece. is_name_text piece.now) pieces.now }
 {
     pieces.iter().all(|piece| is_name(piece))
+}
+
+/// The names between spaces, of which one stands before the first.
+#[tactic(auto, using(crate::proofs::Reading::list_all_seen))]
+fn spaced_names(alloc: Global, pieces: &[&[u8]]) -> Result<Items<Items<u8>>, ReadError>
+    ensures { Gives (λ ns. ns) result (as_names (map now_of pieces.now)) }
+{
+    let [first, names @ ..] = pieces else {
+        return Err(ReadError::Outside);
+    };
+    if first.len() != 0 {
+        return Err(ReadError::Outside);
+    }
+    if !are_names(names) {
+        return Err(ReadError::Outside);
+    }
+    Ok(copies(alloc, names)?)
 }
 
 /// The names behind a word, each with a space before it.
@@ -102,16 +119,7 @@ pub fn names(alloc: Global, line: &[u8], word: &[u8]) -> Result<Items<Items<u8>>
         return Err(ReadError::Outside);
     };
     let pieces = pieces(alloc, rest, b' ')?;
-    match pieces.as_slice() {
-        [] => Err(ReadError::Outside),
-        [first, names @ ..] => {
-            if first.len() == 0 && are_names(names) {
-                Ok(copies(alloc, names)?)
-            } else {
-                Err(ReadError::Outside)
-            }
-        }
-    }
+    spaced_names(alloc, &pieces)
 }
 
 fn is_same_text(a: &str, b: &str) -> bool

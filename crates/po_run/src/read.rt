@@ -3,11 +3,11 @@
 //! The text is cut into lines once; each line is read whole. A function gives what its namesake of specs/Reading gives, and
 //! proofs/ show that reading gives exactly the description and the unit whose printed text it is.
 
-ghost use Rattle.std.specs.Prelude.{◌≡◌, map, IfOk, IfSome, IfNone, Some};
+ghost use Rattle.std.specs.Prelude.{◌≡◌, map, IfOk, IfSome, IfNone, Some, position, codes};
 ghost use Rattle.std.specs.Option.{option_map};
 ghost use Rattle.po_run.specs.Input.{IsInput};
 ghost use Rattle.po_run.specs.Output.{IsOutside};
-ghost use Rattle.po_run.specs.Reading.{Gives, now_of, form_in, seen_form, entry_in, entries_in, op_in, number_op_in, ops_in, until_end, seen_parts, machine_in, unit_in, input_in, text_in, is_end};
+ghost use Rattle.po_run.specs.Reading.{Gives, now_of, form_in, seen_form, entry_in, entries_in, op_in, number_op_in, ops_in, until_end, seen_parts, machine_in, unit_in, input_in, text_in, is_end, same};
 
 use crate::limits::{are_short, has_own_names, is_body, is_sized};
 use crate::lines::{behind, is_same, name, names, number, pieces};
@@ -114,12 +114,20 @@ fn ops(alloc: Global, lines: &[&[u8]]) -> Result<Items<Op>, ReadError>
     Ok(ops)
 }
 
+fn end_of(lines: &[&[u8]]) -> Option<usize>
+    ensures { result ≡ position (λ line. same line.now (codes "end")) lines.now }
+{
+    lines.iter().position(|line| is_same(line, b"end"))
+}
+
 /// The lines before the first `end`, and those behind it.
 fn parts<'a>(lines: &'a [&'a [u8]]) -> Option<(&'a [&'a [u8]], &'a [&'a [u8]])>
     ensures { option_map seen_parts result ≡ until_end (map now_of lines.now) }
 {
-    let at = lines.iter().position(|line| is_same(line, b"end"))?;
-    Some((&lines[..at], &lines[at + 1..]))
+    match end_of(lines) {
+        Some(at) => Some((&lines[..at], &lines[at + 1..])),
+        None => None,
+    }
 }
 
 /// The description that lines without their `end` are.
@@ -190,4 +198,29 @@ fn input(alloc: Global, lines: &[&[u8]]) -> Result<(Machine, Unit), ReadError>
         return Err(ReadError::Outside);
     }
     Ok((machine, unit))
+}
+
+/// The description and the unit that a text is.
+#[tactic(auto, unfolding(crate::specs::Reading::text_in), using(crate::proofs::Reading::list_all_seen))]
+fn whole(alloc: Global, text: &[u8]) -> Result<(Machine, Unit), ReadError>
+    ensures { Gives (λ x. x) result (text_in text.now) }
+{
+    let lines = pieces(alloc, text, b'\n')?;
+    if !are_short(&lines) {
+        return Err(ReadError::Outside);
+    }
+    input(alloc, &lines)
+}
+
+/// The description and the unit whose printed text this is, or nothing where it is of none
+/// (docs/DESCRIPTION.md, docs/LANGUAGE.md).
+pub fn read_input(alloc: Global, text: &[u8]) -> Result<Option<(Machine, Unit)>, OutOfMemory>
+    ensures found { IfOk result (λ found. IfSome found (λ x. IsInput text.now x.0 x.1)) }
+    ensures none { IfOk result (λ found. IfNone found (IsOutside text.now)) }
+{
+    match whole(alloc, text) {
+        Ok(read) => Ok(Some(read)),
+        Err(ReadError::Outside) => Ok(None),
+        Err(ReadError::Memory) => Err(OutOfMemory),
+    }
 }

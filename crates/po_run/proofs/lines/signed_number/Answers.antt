@@ -21,4 +21,4 @@ returns-clause-none c n fits e =
     let parsed : c.parse.result ≡ Ok n = printed_parses _ n c.parse.result fits (c.in-Ok.ensures.cases.0 ∙ e) c.parse.ensures.value.0 in
     let same : c.in-Ok-parse.n ≡ n = cc in
     let text : c.as_str.result.now ≡ c.in-Ok.text.now = c.as_str.ensures.value ∙ c.in_ok-printed.ensures.ok ∙ printed_again _ n fits same ∙ sym (c.in-Ok.ensures.cases.0 ∙ e) in
-    let told = rw c.if-is_same.false at (c.is_same.ensures.1 text) in cc
+    let told = rw c.if-is_same_text.false at (c.is_same_text.ensures.1 text) in cc
