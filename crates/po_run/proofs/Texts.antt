@@ -90,15 +90,22 @@ machine_is name frame result args regs entries m a b c d e f h =
     let x : Machine = as_machine name frame result args regs entries in
     let k = kept (is_sized x && are_apart (frame ∷ result ∷ (args ++ regs))) x m h in
     let both = and_both (is_sized x) (are_apart (frame ∷ result ∷ (args ++ regs))) k.0 in
-    let size = sizes (length args == 4) (nat_le 1 (length regs)) (nat_le (length regs) 64) (nat_le (length entries) 512) both.0 in
-    (subst IsMachine k.1 record {
-      name = a; frame = b; result = c; args = d; regs = e; entries = f;
-      four = eqb-true (length args) 4 size.0;
-      some = leb-true 1 (length regs) size.1;
-      most = leb-true (length regs) 64 size.2;
-      fits = leb-true (length entries) 512 size.3;
-      apart = apart_found (frame ∷ result ∷ (args ++ regs)) both.1;
-    }, k.1)
+    let size = sizes (length args == 4) (nat_le 1 (length regs)) (nat_le (length regs) 64) (nat_le (length entries) 512) both.0 in (
+      subst IsMachine k.1 record {
+        name = a;
+        frame = b;
+        result = c;
+        args = d;
+        regs = e;
+        entries = f;
+        four = eqb-true (length args) 4 size.0;
+        some = leb-true 1 (length regs) size.1;
+        most = leb-true (length regs) 64 size.2;
+        fits = leb-true (length entries) 512 size.3;
+        apart = apart_found (frame ∷ result ∷ (args ++ regs)) both.1;
+      },
+      k.1,
+    )
 
 machine_found : (lines : List (List ℕ)) (m : Machine) → machine_in lines ≡ Some m → IsMachine m × (lines ≡ machine_body m)
 unfolding machine_in
@@ -137,9 +144,16 @@ sized_again m h =
 machine_again : (m : Machine) → IsMachine m → machine_in (machine_body m) ≡ Some m
 unfolding machine_in
 machine_again m h =
-    rw (name_again (codes "machine ") m.name h.name, name_again (codes "frame ") m.frame h.frame, name_again (codes "result ") m.result h.result,
-    names_again (codes "args") m.args h.args, names_again (codes "regs") m.regs h.regs, entries_again m.entries h.entries,
-    sized_again m h, apart_again (m.frame ∷ m.result ∷ (m.args ++ m.regs)) h.apart) refl
+    rw (
+      name_again (codes "machine ") m.name h.name,
+      name_again (codes "frame ") m.frame h.frame,
+      name_again (codes "result ") m.result h.result,
+      names_again (codes "args") m.args h.args,
+      names_again (codes "regs") m.regs h.regs,
+      entries_again m.entries h.entries,
+      sized_again m h,
+      apart_again (m.frame ∷ m.result ∷ (m.args ++ m.regs)) h.apart,
+    ) refl
 
 -- Units
 
@@ -267,16 +281,26 @@ end_feed = (Lacks-test 10 (codes "end") refl, tt)
 machine_feed : (m : Machine) → IsMachine m → AllByRecursion (Lacks 10) (machine_lines m)
 machine_feed m h = (
   named_feed (codes "machine ") m.name (Lacks-test 10 (codes "machine ") refl) h.name,
-  (named_feed (codes "frame ") m.frame (Lacks-test 10 (codes "frame ") refl) h.frame,
-    (named_feed (codes "result ") m.result (Lacks-test 10 (codes "result ") refl) h.result,
-      (spaced_feed (codes "args") m.args (Lacks-test 10 (codes "args") refl) h.args,
-        (spaced_feed (codes "regs") m.regs (Lacks-test 10 (codes "regs") refl) h.regs,
-          feeds_append (map entry_line m.entries) (codes "end" ∷ []) (each_line (Lacks 10) entry_line is_entry entry_feed m.entries h.entries) end_feed)))))
+  (
+    named_feed (codes "frame ") m.frame (Lacks-test 10 (codes "frame ") refl) h.frame,
+    (
+      named_feed (codes "result ") m.result (Lacks-test 10 (codes "result ") refl) h.result,
+      (
+        spaced_feed (codes "args") m.args (Lacks-test 10 (codes "args") refl) h.args,
+        (
+          spaced_feed (codes "regs") m.regs (Lacks-test 10 (codes "regs") refl) h.regs,
+          feeds_append (map entry_line m.entries) (codes "end" ∷ []) (each_line (Lacks 10) entry_line is_entry entry_feed m.entries h.entries) end_feed,
+        ),
+      ),
+    ),
+  ),
+)
 
 unit_feed : (u : unit.Unit) → IsUnit u → AllByRecursion (Lacks 10) (unit_lines u)
 unit_feed u h = (
   named_feed (codes "unit ") u.name (Lacks-test 10 (codes "unit ") refl) h.name,
-  feeds_append (map op_line u.ops) (codes "end" ∷ []) (each_line (Lacks 10) op_line has_word op_feed u.ops h.words) end_feed)
+  feeds_append (map op_line u.ops) (codes "end" ∷ []) (each_line (Lacks 10) op_line has_word op_feed u.ops h.words) end_feed,
+)
 
 short_whole : (lines : List (List ℕ)) → are_short lines ≡ true → are_short (lines ++ [] ∷ []) ≡ true
 short_whole lines h = list_all-append (λ line. nat_le (length line) 4096) lines ([] ∷ []) ∙ rw h refl
@@ -289,10 +313,10 @@ text_again text m u is =
     rw (pieces, short_whole (input_lines m u) is.lines) (input_again m u is.machine is.unit)
 
 -- the text of a description and a unit determines both
-pub one_input : {text : List ℕ} {m m' : Machine} {u u' : unit.Unit} → IsInput text m u → IsInput text m' u' → (m ≡ m') × (u ≡ u')
-one_input {text} {m} {m'} {u} {u'} is is' =
-    let same : Some (with_unit m u) ≡ Some (with_unit m' u') = sym (text_again text m u is) ∙ text_again text m' u' is' in
-    let both : with_unit m u ≡ with_unit m' u' = some_is (with_unit m u) (with_unit m' u') same in
+pub one_input : (text : List ℕ) (m n : Machine) (u v : unit.Unit) → IsInput text m u → IsInput text n v → (m ≡ n) × (u ≡ v)
+one_input text m n u v is is' =
+    let same : Some (with_unit m u) ≡ Some (with_unit n v) = sym (text_again text m u is) ∙ text_again text n v is' in
+    let both : with_unit m u ≡ with_unit n v = some_is (with_unit m u) (with_unit n v) same in
     (ap (λ (x : Machine × unit.Unit). x.0) both, ap (λ (x : Machine × unit.Unit). x.1) both)
 
 -- what is read as nothing is of no description and unit

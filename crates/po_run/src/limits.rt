@@ -79,27 +79,9 @@ fn depth_after(depth: usize, op: Op) -> Option<usize>
     ensures { result ≡ depth_behind depth op }
 {
     match op {
-        Op::Con(_) | Op::Adl(_) => {
-            if depth < 64 {
-                Some(depth + 1)
-            } else {
-                None
-            }
-        }
-        Op::Lod => {
-            if depth >= 1 {
-                Some(depth)
-            } else {
-                None
-            }
-        }
-        Op::Add => {
-            if depth >= 2 {
-                Some(depth - 1)
-            } else {
-                None
-            }
-        }
+        Op::Con(_) | Op::Adl(_) => { if depth < 64 { Some(depth + 1) } else { None } }
+        Op::Lod => { if depth >= 1 { Some(depth) } else { None } }
+        Op::Add => { if depth >= 2 { Some(depth - 1) } else { None } }
         Op::Ret => None,
     }
 }

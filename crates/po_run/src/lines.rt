@@ -11,6 +11,7 @@ ghost use Rattle.po_run.specs.Input.{is_name as is_name_text, is_name_byte, begi
 ghost use Rattle.po_run.specs.Reading.{Gives, now_of, pieces_of, after_word, same, name_in, as_names, names_in, number_in};
 
 use crate::read_error::ReadError;
+use itoa::Buffer;
 use sqlite_items::Items;
 use std::alloc::{AllocError, Global};
 
@@ -129,29 +130,29 @@ fn is_same_text(a: &str, b: &str) -> bool
 }
 
 /// The number from -2^31 to 2^31 - 1 that these bytes are the printed form of.
-fn signed_number(alloc: Global, bytes: &[u8]) -> Result<Option<i32>, AllocError>
-    ensures found { IfOk result (λ found. IfSome found (λ n. bytes.now ≡ signed_decimal n)) }
-    ensures none { IfOk result (λ found. IfNone found ((n : ℤ) → FitsSigned w32 n → bytes.now ≡ signed_decimal n → ⊥)) }
+fn signed_number(bytes: &[u8]) -> Option<i32>
+    ensures found { IfSome result (λ n. bytes.now ≡ signed_decimal n) }
+    ensures none { IfNone result ((n : ℤ) → FitsSigned w32 n → bytes.now ≡ signed_decimal n → ⊥) }
 {
     let Ok(text) = str::from_utf8(bytes) else {
-        return Ok(None);
+        return None;
     };
     let Ok(n) = text.parse::<i32>() else {
-        return Ok(None);
+        return None;
     };
-    let printed = n.to_string(alloc)?;
-    if is_same_text(printed.as_str(), text) {
-        Ok(Some(n))
+    let mut buffer = Buffer::new();
+    if is_same_text(buffer.format(n), text) {
+        Some(n)
     } else {
-        Ok(None)
+        None
     }
 }
 
 /// The word whose signed view these bytes are the printed form of.
-pub fn number(alloc: Global, bytes: &[u8]) -> Result<u32, ReadError>
+pub fn number(bytes: &[u8]) -> Result<u32, ReadError>
     ensures { Gives (λ n. n) result (number_in bytes.now) }
 {
-    match signed_number(alloc, bytes)? {
+    match signed_number(bytes) {
         Some(n) => Ok(n.cast_unsigned()),
         None => Err(ReadError::Outside),
     }

@@ -73,15 +73,15 @@ fn entries(alloc: Global, lines: &[&[u8]]) -> Result<Items<Entry>, ReadError>
 
 /// The operation with a number that a line is.
 #[tactic(auto, unfolding(crate::specs::Reading::number_op_in))]
-fn number_op(alloc: Global, line: &[u8]) -> Result<Op, ReadError>
+fn number_op(line: &[u8]) -> Result<Op, ReadError>
     ensures { Gives (λ o. o) result (number_op_in line.now) }
 {
     if let Some(digits) = behind(line, b"con ") {
-        let n = number(alloc, digits)?;
+        let n = number(digits)?;
         return Ok(Op::Con(n));
     }
     if let Some(digits) = behind(line, b"adl ") {
-        let n = number(alloc, digits)?;
+        let n = number(digits)?;
         return Ok(Op::Adl(n));
     }
     Err(ReadError::Outside)
@@ -89,14 +89,14 @@ fn number_op(alloc: Global, line: &[u8]) -> Result<Op, ReadError>
 
 /// The operation that a line is (docs/LANGUAGE.md, "Stack code").
 #[tactic(auto, unfolding(crate::specs::Reading::op_in))]
-fn op(alloc: Global, line: &[u8]) -> Result<Op, ReadError>
+fn op(line: &[u8]) -> Result<Op, ReadError>
     ensures { Gives (λ o. o) result (op_in line.now) }
 {
     match line {
         b"lod" => Ok(Op::Lod),
         b"add" => Ok(Op::Add),
         b"ret" => Ok(Op::Ret),
-        _ => number_op(alloc, line),
+        _ => number_op(line),
     }
 }
 
@@ -106,7 +106,7 @@ fn ops(alloc: Global, lines: &[&[u8]]) -> Result<Items<Op>, ReadError>
 {
     let mut ops = Items::new(alloc);
     for line in lines {
-        match op(alloc, line) {
+        match op(line) {
             Ok(op) => ops.push(op)?,
             Err(error) => return Err(error),
         }
@@ -222,5 +222,77 @@ pub fn read_input(alloc: Global, text: &[u8]) -> Result<Option<(Machine, Unit)>,
         Ok(read) => Ok(Some(read)),
         Err(ReadError::Outside) => Ok(None),
         Err(ReadError::Memory) => Err(OutOfMemory),
+    }
+}
+
+#[cfg(test)]
+mod tests {
+    use super::*;
+    use std::test::Fail;
+
+    const HEAD: &str = "machine tiny\nframe fp\nresult rv\nargs a0 a1 a2 a3\nregs r0 r1\n";
+
+    const ENTRIES: &str =
+        "insn %0 := #1 => li %0,#1 ##\ninsn %0 := %1 => mov %0,%1\ninsn ret => ret\nend\n";
+
+    const UNIT: &str = "unit f\ncon -2147483648\nret\nend\n";
+
+    /// Texts that are just outside the grammar, each in one place.
+    const OUTSIDE: [[&str; 3]; 15] = [
+        [
+            "machine tiny\nframe fp\nresult rv\nargs a0 a1 a2 a3 a4\nregs r0\n",
+            ENTRIES,
+            UNIT,
+        ],
+        [
+            "machine tiny\nframe fp\nresult rv\nargs a0 a1 a2 a3\nregs r0 r0\n",
+            ENTRIES,
+            UNIT,
+        ],
+        [
+            "machine tiny\nframe fp\nresult rv\nargs a0 a1 a2 a3\nregs\n",
+            ENTRIES,
+            UNIT,
+        ],
+        [
+            "machine tiny\nframe fp\nresult fp\nargs a0 a1 a2 a3\nregs r0\n",
+            ENTRIES,
+            UNIT,
+        ],
+        [HEAD, "insn %0 := %1 => mov %0,%2\nend\n", UNIT],
+        [HEAD, "insn ret => ret %\nend\n", UNIT],
+        [HEAD, "insn ret  => ret\nend\n", UNIT],
+        [HEAD, ENTRIES, "unit f\ncon 007\nret\nend\n"],
+        [HEAD, ENTRIES, "unit f\ncon -0\nret\nend\n"],
+        [HEAD, ENTRIES, "unit f\ncon 4294967295\nret\nend\n"],
+        [HEAD, ENTRIES, "unit f\ncon  1\nret\nend\n"],
+        [HEAD, ENTRIES, "unit f\ncon 1\nret\ncon 2\nend\n"],
+        [HEAD, ENTRIES, "unit f\nadd\nret\nend\n"],
+        [HEAD, ENTRIES, "unit f\ncon 1\nret\nend"],
+        [HEAD, ENTRIES, "unit f\ncon 1\nret\nend\n\n"],
+    ];
+
+    fn read(alloc: Global, parts: &[&str]) -> Result<Option<(Machine, Unit)>, Fail> {
+        let mut text = Vec::new(alloc);
+        for part in parts {
+            text.extend_from_slice(part.as_bytes())?;
+        }
+        Ok(read_input(alloc, &text)?)
+    }
+
+    #[test]
+    fn reads_the_grammar_alone(rt: HostRuntime) -> Result<(), Fail> {
+        let alloc = rt.alloc();
+        assert!(rt; read(alloc, &[HEAD, ENTRIES, UNIT])?.is_some());
+        for parts in &OUTSIDE {
+            assert!(rt;
+                read(alloc, parts)?.is_none(),
+                "{} {} {}",
+                parts[0],
+                parts[1],
+                parts[2]
+            );
+        }
+        Ok(())
     }
 }

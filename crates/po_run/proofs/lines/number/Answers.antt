@@ -7,8 +7,7 @@ use Rattle.po_run.proofs.lines.number.Goals as goal
 pub returns-in-Some : goal.returns-in-Some
 returns-in-Some c =
     let fits : FitsSigned w32 c.in-Some.n = search rules in
-    let found = rw c.in-Some.is at c.in_ok-n.ensures.found in
-    number_is c.args.bytes.now c.in-Some.n c.cast_unsigned.result fits found c.cast_unsigned.ensures
+    number_is c.args.bytes.now c.in-Some.n c.cast_unsigned.result fits c.in-Some.ensures.found c.cast_unsigned.ensures
 
 pub returns-in-None : goal.returns-in-None
-returns-in-None c = number_none c.args.bytes.now (rw c.in-None.is at c.in_ok-n.ensures.none)
+returns-in-None c = number_none c.args.bytes.now c.in-None.ensures.none
