@@ -4,5 +4,5 @@ use Rattle.po_run.proofs.serial.po_serial.Goals as goal
 
 -- the other clauses leave no other end
 pub returns-clause-complete : goal.returns-clause-complete
-returns-clause-complete c =
-    complete (λ text m n u v is is_too. one_input is is_too) c.args.words.now c.run.result _ _ _ _ _ _ _ _ c.run.ensures.usage c.run.ensures.read_fault c.run.ensures.bad_text c.run.ensures.unrecognised c.run.ensures.too_few c.run.ensures.write_fault
+returns-clause-complete c = λ d.
+    complete one_input d.args.words.now d.run-status.result _ _ _ _ _ _ _ _ d.run-status.ensures.usage d.run-status.ensures.read_fault d.run-status.ensures.bad_text d.run-status.ensures.unrecognised d.run-status.ensures.too_few d.run-status.ensures.write_fault
