@@ -1,7 +1,7 @@
 //! Terms and instructions beside what the table of docs/OPTIMISER.md makes of them, worked out by hand.
 use self::Part::{Arg, Fp, Mem, Num, One, Two, Virt};
 use crate::{make_bin, make_un, simplify, simplify_instr};
-use po_term::{Cond, Instr, Label, Reg, Term, Transfer};
+use po_term::{Cond, Instr, Label, Reg, Term, Transfer, same_term};
 use po_word::{Bin, OutOfMemory, Rel, Un};
 use std::alloc::Global;
 
@@ -15,18 +15,6 @@ enum Part {
     Mem,
     One(Un),
     Two(Bin),
-}
-
-fn same_term(a: &Term, b: &Term) -> bool {
-    match (a, b) {
-        (Term::Num(x), Term::Num(y)) => *x == *y,
-        (Term::Reg(x), Term::Reg(y)) => *x == *y,
-        (Term::Addr(x), Term::Addr(y)) => *x == *y,
-        (Term::Mem(x), Term::Mem(y)) => same_term(x, y),
-        (Term::Un(o, x), Term::Un(p, y)) => *o == *p && same_term(x, y),
-        (Term::Bin(o, x, z), Term::Bin(p, y, w)) => *o == *p && same_term(x, y) && same_term(z, w),
-        _ => false,
-    }
 }
 
 fn pop(stack: &mut Vec<Term>) -> Term {

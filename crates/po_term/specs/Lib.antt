@@ -1,6 +1,7 @@
 pub mod Tree
 pub mod Terms
 pub mod Moves
+pub mod Form
 pub mod Kinds
 pub mod Simplified
 pub mod Worth

@@ -34,33 +34,33 @@ same_register p q = false
 
 -- `same` says of two leaves whether they are the same register
 module _ {K L : Type 0} (k : Kind K) (same : L → L → Bool) where
-  -- neg(a)
+  -- the constructor of neg(a)
   abbrev pub make_neg : Tree K L → Met K (Tree K L)
   make_neg (Const c) = give (Const (k.un Neg c))
   make_neg (Unary Neg t) = give t
   make_neg a = give (Unary Neg a)
 
-  -- not(a)
+  -- the constructor of not(a)
   abbrev pub make_not : Tree K L → Met K (Tree K L)
   make_not (Const c) = give (Const (k.un Not c))
   make_not (Unary Not t) = give t
   make_not a = give (Unary Not a)
 
-  -- a op c: 0 leaves a as it is
+  -- (a op c), or a where c is 0
   abbrev pub plain : Bin → Tree K L → K → Met K (Tree K L)
   plain o a c = ask k (Zero c) (give a) (give (Binary o a (Const c)))
 
-  -- a + c
+  -- the constructor of (a + c)
   abbrev pub plus_const : Tree K L → K → Met K (Tree K L)
   plus_const (Const d) c = give (Const (k.bin Add d c))
   plus_const (Binary Add t (Const d)) c = plain Add t (k.bin Add d c)
   plus_const a c = plain Add a c
 
-  -- c - b
+  -- the constructor of (c - b), where b is no constant
   abbrev pub minus_from : K → Tree K L → Met K (Tree K L)
   minus_from c b = ask k (Zero c) (make_neg b) (give (Binary Sub (Const c) b))
 
-  -- a - b
+  -- the constructor of (a - b)
   abbrev pub make_minus : Tree K L → Tree K L → Met K (Tree K L)
   make_minus (Const c) (Const d) = give (Const (k.bin Sub c d))
   make_minus a (Const c) = plus_const a (k.un Neg c)
@@ -69,7 +69,7 @@ module _ {K L : Type 0} (k : Kind K) (same : L → L → Bool) where
       if same r s then give (Const (k.number 0)) else give (Binary Sub (Leaf r) (Leaf s))
   make_minus a b = give (Binary Sub a b)
 
-  -- a + b
+  -- the constructor of (a + b)
   unfoldable pub make_plus : Tree K L → Tree K L → Met K (Tree K L)
   make_plus (Const c) (Const d) = give (Const (k.bin Add c d))
   make_plus (Const c) b = plus_const b c
@@ -80,49 +80,49 @@ module _ {K L : Type 0} (k : Kind K) (same : L → L → Bool) where
   make_plus a (Unary Neg u) = make_minus a u
   make_plus a b = give (Binary Add a b)
 
-  -- a * c, where a is neither a constant nor (t * d)
+  -- the constructor of (a * c), where a is neither a constant nor (t * d)
   abbrev pub times_plain : Tree K L → K → Met K (Tree K L)
   times_plain a c =
       ask k (Zero c) (give (Const (k.number 0)))
       (ask k (One c) (give a)
       (ask k (Pow2 c) (give (Binary Shl a (Const (k.log2 c)))) (give (Binary Mul a (Const c)))))
 
-  -- a * c
+  -- the constructor of (a * c)
   abbrev pub times_const : Tree K L → K → Met K (Tree K L)
   times_const (Const d) c = give (Const (k.bin Mul d c))
   times_const (Binary Mul t (Const d)) c = times_const t (k.bin Mul d c)
   times_const a c = times_plain a c
 
-  -- a & c, where a is neither a constant nor (t & d)
+  -- the constructor of (a & c), where a is neither a constant nor (t & d)
   abbrev pub and_plain : Tree K L → K → Met K (Tree K L)
   and_plain a c = ask k (Zero c) (give (Const (k.number 0))) (ask k (Ones c) (give a) (give (Binary And a (Const c))))
 
-  -- a & c
+  -- the constructor of (a & c)
   abbrev pub and_const : Tree K L → K → Met K (Tree K L)
   and_const (Const d) c = give (Const (k.bin And d c))
   and_const (Binary And t (Const d)) c = and_const t (k.bin And d c)
   and_const a c = and_plain a c
 
-  -- a | c
+  -- the constructor of (a | c)
   abbrev pub or_const : Tree K L → K → Met K (Tree K L)
   or_const (Const d) c = give (Const (k.bin Or d c))
   or_const (Binary Or t (Const d)) c = or_const t (k.bin Or d c)
   or_const a c = plain Or a c
 
-  -- a ^ c
+  -- the constructor of (a ^ c)
   abbrev pub xor_const : Tree K L → K → Met K (Tree K L)
   xor_const (Const d) c = give (Const (k.bin Xor d c))
   xor_const (Binary Xor t (Const d)) c = xor_const t (k.bin Xor d c)
   xor_const a c = plain Xor a c
 
-  -- a op b for *, &, | and ^: a constant is put right, and `onto` makes (a op c)
+  -- the constructor of (a op b) for *, &, | and ^, where `onto` is that of (a op c): a constant is put right
   abbrev pub make_swapped : Bin → (Tree K L → K → Met K (Tree K L)) → Tree K L → Tree K L → Met K (Tree K L)
   make_swapped o onto (Const c) (Const d) = give (Const (k.bin o c d))
   make_swapped o onto (Const c) b = onto b c
   make_swapped o onto a (Const c) = onto a c
   make_swapped o onto a b = give (Binary o a b)
 
-  -- a op b for the shifts
+  -- the constructor of (a op b) for the shifts
   abbrev pub make_shift : Bin → Tree K L → Tree K L → Met K (Tree K L)
   make_shift o (Const c) (Const d) = give (Const (k.bin o c d))
   make_shift o a (Const c) = plain o a c
