@@ -6,11 +6,17 @@ use std::alloc::Global;
 use std::test::Fail;
 
 const HEAD: &str = "machine tiny\nframe fp\nresult rv\nargs a0 a1 a2 a3\nregs r0 r1 r2 r3\n";
+
 const LI: &str = "insn %0 := #1 => li %0,#1\n";
+
 const LEA_LD: &str = "insn %0 := (fp + #1) => lea %0,#1\ninsn %0 := M[%1] => ld %0,(%1)\n";
+
 const ADD: &str = "insn %0 := (%1 + %2) => add %0,%1,%2\n";
+
 const MOV_RET: &str = "insn %0 := %1 => mov %0,%1\ninsn ret => ret\nend\n";
+
 const LOAD_AND_ADD: &str = "unit f\nadl 4\nlod\ncon 1\nadd\nret\nend\n";
+
 const LOADED_AND_ADDED: &str =
     "f:\n  lea r0,4\n  ld r0,(r0)\n  li r1,1\n  add r0,r0,r1\n  mov rv,r0\n  ret\n";
 
@@ -49,7 +55,12 @@ fn run(alloc: Global, word: &str, text: Vec<u8>, streams: &Streams) -> Result<En
     let words = vec![in alloc; String::from_str(alloc, word)?]?;
     let most = streams.most.max(1);
     let mut source = MemSource::new(text, most, vec![in alloc; streams.read_fails]?);
-    let mut sink = MemSink::new(alloc, most, vec![in alloc; streams.write_fails]?, streams.room)?;
+    let mut sink = MemSink::new(
+        alloc,
+        most,
+        vec![in alloc; streams.write_fails]?,
+        streams.room,
+    )?;
     let mut notes = MemSink::new(alloc, 100, Vec::new(alloc), 1000)?;
     let status = po_serial(alloc, &words, &mut source, &mut sink, &mut notes);
     Ok(Ended {
@@ -67,7 +78,10 @@ fn compiles(rt: HostRuntime) -> Result<(), Fail> {
             &[HEAD, LI, MOV_RET, "unit f\ncon 1\nret\nend\n"],
             "f:\n  li r0,1\n  mov rv,r0\n  ret\n",
         ),
-        (&[HEAD, LI, LEA_LD, ADD, MOV_RET, LOAD_AND_ADD], LOADED_AND_ADDED),
+        (
+            &[HEAD, LI, LEA_LD, ADD, MOV_RET, LOAD_AND_ADD],
+            LOADED_AND_ADDED,
+        ),
         (
             &[
                 HEAD,
@@ -136,7 +150,11 @@ fn refuses(rt: HostRuntime) -> Result<(), Fail> {
             outside,
             told_outside,
         ),
-        (&[HEAD, LI, MOV_RET, "unit f\ncon 1\nret\nend"], outside, told_outside),
+        (
+            &[HEAD, LI, MOV_RET, "unit f\ncon 1\nret\nend"],
+            outside,
+            told_outside,
+        ),
         (&[], outside, told_outside),
     ];
     for (parts, status, told) in rows {
@@ -173,7 +191,12 @@ fn fails(rt: HostRuntime) -> Result<(), Fail> {
     let rows = [
         ("", &GOOD, usage, ""),
         ("fast", &GOOD, usage, ""),
-        ("naive", &slow_sink, Status::WriteFault { written: 10 }, "f:\n  lea r"),
+        (
+            "naive",
+            &slow_sink,
+            Status::WriteFault { written: 10 },
+            "f:\n  lea r",
+        ),
         ("naive", &bad_source, Status::ReadFault, ""),
         (
             "naive",

@@ -92,7 +92,7 @@ fn is_return(op: Op) -> bool
     matches!(op, Op::Ret)
 }
 
-/// Whether the operations keep the stack's rules and end in the one `ret` (docs/LANGUAGE.md, "The stack").
+/// Whether the operations keep the stack's rules and end in the one `ret` (docs/LANGUAGE.md, "Stack code").
 pub fn is_body(ops: &[Op]) -> bool
     ensures { result ≡ is_body_of 0 ops.now }
 {

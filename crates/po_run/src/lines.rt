@@ -57,7 +57,7 @@ fn has_name_letters(bytes: &[u8]) -> bool
     bytes.iter().all(|b| is_name_letter(*b))
 }
 
-/// Whether these bytes are a name (docs/DESCRIPTION.md, "Names").
+/// Whether these bytes are a name (docs/DESCRIPTION.md, "Lines").
 pub fn is_name(bytes: &[u8]) -> bool
     ensures { result ≡ is_name_text bytes.now }
 {
