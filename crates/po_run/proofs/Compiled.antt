@@ -1,5 +1,5 @@
 -- The steps of compiling, one after another.
-use Rattle.std.proofs.Common.{◌≡◌, ℕ, List, [], ◌++◌, length, Option, None, ap, sym, ◌∙◌, subst}
+use Rattle.std.proofs.Common.{◌≡◌, ℕ, List, [], ◌++◌, length, None, ap, sym, ◌∙◌, subst}
 use Rattle.std.specs.Prelude.{codes, slice_index}
 use Rattle.po_term.specs.declared.transfer.Instr.{Instr}
 use Rattle.po_term.specs.Moves.{instrs_of}

@@ -1,11 +1,10 @@
 -- A text that has an output compiles, unless memory is wanted or the source or the sink fails.
-use Rattle.std.proofs.Common.{◌≡◌, ℕ, ◌+◌, ◌-◌, ◌^◌, ◌<◌, ◌≤◌, List, [], ◌++◌, length, take, Option, Some, None, refl, ap, sym, ◌∙◌, subst, arith}
+use Rattle.std.proofs.Common.{◌≡◌, ℕ, ◌+◌, ◌-◌, ◌^◌, ◌<◌, ◌≤◌, List, [], ◌++◌, length, Option, Some, None, refl, ap, sym, ◌∙◌, subst, arith}
 use Rattle.std.proofs.lemmas.List.{append-nil, length-append}
-use Rattle.std.specs.Prelude.{◌↔◌, ⊤}
+use Rattle.std.specs.Prelude.{◌↔◌}
 use Rattle.std.specs.declared.string.String.{String}
 use Rattle.std.specs.declared.alloc.Global.{Global}
 use Rattle.po_text.specs.Causes.{Rose, before_known}
-use Rattle.po_text.specs.declared.fault.Kind.{Kind}
 use Rattle.po_text.specs.declared.fault.Kind.TheVariants as kind
 use Rattle.po_run.specs.declared.model.Machine.{Machine}
 use Rattle.po_run.specs.declared.model.Unit.{Unit}
@@ -14,9 +13,9 @@ use Rattle.po_run.specs.declared.status.Status.TheVariants as status
 use Rattle.po_run.specs.Input.{IsInput}
 use Rattle.po_run.specs.Naive.{naive}
 use Rattle.po_run.specs.Fit.{first_unfit}
-use Rattle.po_run.specs.Placement.{intervals, IsUncrowded, IsCrowded}
-use Rattle.po_run.specs.Output.{IsOutside, IsOutput, IsUnfit, IsShort, IsRecognised, HasRoom}
-use Rattle.po_run.specs.Statuses.{IsNaive, ReadsWhole, OnReadFault, OnBadText, OnUnrecognised, OnTooFew, OnWriteFault, IsComplete, IsDoneOrMemory}
+use Rattle.po_run.specs.Placement.{intervals, IsUncrowded}
+use Rattle.po_run.specs.Output.{IsOutside, IsUnfit, IsShort, IsRecognised, HasRoom}
+use Rattle.po_run.specs.Statuses.{IsNaive, ReadsWhole, OnReadFault, OnBadText, OnUnrecognised, OnTooFew, OnWriteFault, IsComplete}
 
 -- a text is the printed form of one description and one unit
 abbrev pub OneInput : Type 0

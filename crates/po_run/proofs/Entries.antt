@@ -1,6 +1,6 @@
 -- The lines of entries and of operations, one by one and all of them.
-use Rattle.std.proofs.Common.{◌≡◌, ◌≢◌, ℕ, ◌+◌, ◌<◌, ◌≤◌, ◌^◌, List, [], ◌∷◌, ◌++◌, Option, Some, None, refl, sym, ap, ◌∙◌, subst, ◌⊎◌, inl, inr, arith, rules, Bool, true, false, suc, map}
-use Rattle.std.specs.Prelude.{if◌then◌else◌, cond, codes, ◌&&◌, nat_lt, ℤ, FitsSigned}
+use Rattle.std.proofs.Common.{◌≡◌, ◌≢◌, ℕ, ◌<◌, ◌≤◌, ◌^◌, List, [], ◌∷◌, ◌++◌, Option, Some, None, refl, sym, ap, ◌∙◌, subst, ◌⊎◌, inl, inr, arith, Bool, true, false, suc, map}
+use Rattle.std.specs.Prelude.{if◌then◌else◌, codes, nat_lt, ℤ, FitsSigned}
 use Rattle.std.specs.Int.{w32}
 use Rattle.std.specs.List.{list_all, AllByRecursion}
 use Rattle.std.specs.Option.{option_map}
@@ -14,15 +14,14 @@ use lib.IntN.{pos, negsuc}
 use Rattle.po_word.specs.Words.{signed}
 use Rattle.po_run.specs.declared.model.Form.{Form}
 use Rattle.po_run.specs.declared.model.Form.TheVariants as form
-use Rattle.po_run.specs.declared.model.Piece.{Piece}
 use Rattle.po_run.specs.declared.model.Entry.{Entry}
 use Rattle.po_run.specs.declared.model.Op.{Op}
 use Rattle.po_run.specs.declared.model.Op.TheVariants as op
-use Rattle.po_run.specs.Input.{pattern_text, template_text, entry_line, is_entry, is_piece, op_line, has_word}
+use Rattle.po_run.specs.Input.{pattern_text, template_text, entry_line, is_entry, op_line, has_word}
 use Rattle.po_run.specs.Reading.{◌>>=◌, same, or_else, after_word, of_form, form_in, as_entry, template_in, entry_in, with_first, number_in, number_op_in, op_in}
 use Rattle.po_run.proofs.Lists.{chosen, mapped}
 use Rattle.po_run.proofs.Choices.{and_both, some_is, bound, same_is}
-use Rattle.po_run.proofs.Words.{Lacks, Lacks-append, Lacks-test, after_found, after_again}
+use Rattle.po_run.proofs.Words.{Lacks, Lacks-append, Lacks-test, after_found}
 use Rattle.po_run.proofs.Numbers.{number_found, number_again, signed_fits}
 use Rattle.po_run.proofs.Templates.{template_found, template_again, Lacks-template}
 

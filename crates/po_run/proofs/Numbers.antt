@@ -1,18 +1,18 @@
 -- The printed form of a number is a text, is parsed as that number, and is read as its word.
-use Rattle.std.proofs.Common.{◌≡◌, ℕ, ◌+◌, ◌-◌, ◌%◌, ◌<◌, ◌≤◌, ◌^◌, List, [], ◌∷◌, Result, Ok, Option, Some, None, Bool, true, false, cond, ◌⊎◌, inl, inr, subst, ap, sym, refl, ◌∙◌, arith, rules, suc, get_or, length}
-use Rattle.std.specs.Prelude.{ℤ, FitsSigned, ◌&&◌, ◌==◌, nat_eq, if◌then◌else◌}
-use Rattle.std.specs.Int.{w32, cast_signed, cast_unsigned}
+use Rattle.std.proofs.Common.{◌≡◌, ℕ, ◌-◌, ◌%◌, ◌<◌, ◌≤◌, ◌^◌, List, [], ◌∷◌, Result, Ok, Some, None, Bool, true, false, cond, subst, ap, sym, refl, ◌∙◌, arith, rules, suc, length}
+use Rattle.std.specs.Prelude.{ℤ, FitsSigned, ◌==◌}
+use Rattle.std.specs.Int.{w32}
 use Rattle.std.specs.Fmt.{signed_decimal, decimal}
 use Rattle.std.specs.Str.{IsUtf8}
 use Rattle.std.specs.Str.Parse.{ParsesSigned, digits_value, AllDigits}
 use Rattle.std.proofs.lemmas.Fmt.{IsAscii-signed, parse-signed_decimal, decimal_is_IsNumeral}
 use Rattle.std.proofs.lemmas.Str.{IsUtf8-from_ascii}
 use Rattle.std.proofs.lemmas.Str.Parse.{digit_from_value}
-use Rattle.std.proofs.lemmas.Int.{to_z-of_z, of_z-to_z, ints}
+use Rattle.std.proofs.lemmas.Int.{to_z-of_z, of_z-to_z}
 use lib.Signed.{mag}
 use lib.IntN.{pos, negsuc}
 use mir.Val.{to_z, of_z}
-use Rattle.po_word.specs.Words.{signed, word_of}
+use Rattle.po_word.specs.Words.{signed}
 use Rattle.po_run.specs.Reading.{same, word_in, number_in}
 use Rattle.std.proofs.Math.Nat.{mod-eq_of_lt}
 use Rattle.std.proofs.Math.Facts.{sfits_to_z}

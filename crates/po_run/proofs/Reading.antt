@@ -1,6 +1,6 @@
 -- What is read step by step: pieces in front of pieces, and lists from their first element on.
-use Rattle.std.proofs.Common.{◌≡◌, ℕ, ◌+◌, ◌-◌, ◌<◌, ◌≤◌, List, [], ◌∷◌, ◌++◌, Option, Some, None, Bool, true, false, cond, refl, ap, sym, ◌∙◌, subst, append_assoc, length, drop, get_or, take, add-one, drop-cons, arith, zero, suc, map, Bor}
-use Rattle.std.specs.Prelude.{◌&&◌, ◌||◌, ◌==◌, not, nat_le, nat_lt, codes, if◌then◌else◌}
+use Rattle.std.proofs.Common.{◌≡◌, ℕ, ◌+◌, ◌<◌, ◌≤◌, List, [], ◌∷◌, ◌++◌, Option, Some, None, Bool, true, false, cond, refl, ap, sym, ◌∙◌, subst, append_assoc, length, drop, get_or, take, add-one, drop-cons, arith, zero, suc, map, Bor}
+use Rattle.std.specs.Prelude.{◌&&◌, ◌||◌, ◌==◌, not, nat_le, nat_lt, codes}
 use Rattle.std.specs.List.{list_all, list_any, position, position_or_len}
 use Rattle.std.proofs.lemmas.List.Sums.{fails_before_first}
 use Rattle.std.proofs.lemmas.List.Quantifiers.{position-Some}
@@ -14,7 +14,7 @@ use Rattle.po_run.specs.declared.model.Piece.TheVariants as piece
 use Rattle.po_run.specs.declared.read_error.ReadError.{ReadError}
 use Rattle.po_run.specs.declared.read_error.ReadError.TheVariants as error
 use Rattle.po_run.specs.Input.{is_mark, is_name}
-use Rattle.po_run.specs.Reading.{Fails, now_of, with_pieces, with_first, template_from, same, are_apart, until_end, after_line, Parts, as_names}
+use Rattle.po_run.specs.Reading.{Fails, now_of, with_pieces, with_first, template_from, same, are_apart, until_end, after_line, as_names}
 
 pub with_pieces_two : (a b : List Piece) (r : Option (List Piece)) → with_pieces a (with_pieces b r) ≡ with_pieces (a ++ b) r
 with_pieces_two a b None = refl

@@ -1,19 +1,19 @@
 -- The lines of descriptions and units, and whole texts: what is read has the form, and what has the form is read.
-use Rattle.std.proofs.Common.{◌≡◌, ◌≢◌, ℕ, ◌+◌, ◌<◌, ◌≤◌, List, [], ◌∷◌, ◌++◌, Option, Some, None, refl, sym, ap, ◌∙◌, subst, arith, rules, Bool, true, false, map, length, append_assoc}
-use Rattle.std.specs.Prelude.{if◌then◌else◌, cond, codes, ◌&&◌, ◌||◌, ◌==◌, not, nat_le, IsTrue}
+use Rattle.std.proofs.Common.{◌≡◌, ◌≢◌, ℕ, ◌≤◌, List, [], ◌∷◌, ◌++◌, Option, Some, None, refl, sym, ap, ◌∙◌, subst, arith, Bool, true, false, map, length, append_assoc}
+use Rattle.std.specs.Prelude.{if◌then◌else◌, cond, codes, ◌&&◌, ◌||◌, ◌==◌, not, nat_le}
 use Rattle.std.specs.List.{list_all, list_any, AllByRecursion}
 use Rattle.std.specs.Option.{option_map}
-use Rattle.std.proofs.lemmas.Bool.{eqb-true, eq-eqb, leb-true}
+use Rattle.std.proofs.lemmas.Bool.{eqb-true, leb-true}
 use Rattle.std.proofs.lemmas.Bool.Decides.{nat_tests}
 use Rattle.std.proofs.lemmas.List.Folds.{list_all-append}
 use Rattle.po_run.specs.declared.model.Entry.{Entry}
 use Rattle.po_run.specs.declared.model.Machine.{Machine}
 use Rattle.po_run.specs.declared.model.Op.{Op}
 use Rattle.po_run.specs.declared.model.Unit as unit
-use Rattle.po_run.specs.Input.{is_name, names_text, AreApart, entry_line, is_entry, machine_lines, IsMachine, op_line, unit_lines, has_word, is_body, IsUnit, text_of, input_lines, IsInput}
+use Rattle.po_run.specs.Input.{is_name, names_text, AreApart, entry_line, is_entry, machine_lines, IsMachine, op_line, unit_lines, has_word, is_body, IsUnit, input_lines, IsInput}
 use Rattle.po_run.specs.Reading.{◌>>=◌, same, name_in, names_in, pieces_of, entry_in, entries_in, op_in, ops_in, Parts, after_line, until_end, are_apart, is_sized, as_machine, kept_machine, machine_in, as_unit, kept_unit, unit_in, is_end, with_unit, input_in, are_short, text_in}
 use Rattle.po_run.proofs.Lists.{mapped}
-use Rattle.po_run.proofs.Choices.{and_both, some_is, bound, kept, same_is, same_again, same_not, not_same, not_true}
+use Rattle.po_run.proofs.Choices.{and_both, some_is, bound, kept, same_is, same_not, not_same}
 use Rattle.po_run.proofs.Words.{Lacks, Lacks-append, Lacks-test, Lacks-name, Lacks-names, name_found, name_again, names_found, names_again, lines_found, lines_again}
 use Rattle.po_run.proofs.Entries.{all_found, all_again, each_line, entry_found, entry_again, entry_feed, entry_no_end, op_found, op_again, op_feed, op_no_end}
 

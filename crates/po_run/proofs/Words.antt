@@ -1,14 +1,13 @@
 -- Words of a line: what stands behind a word, pieces, names.
-use Rattle.std.proofs.Common.{◌≡◌, ◌≢◌, ◌≤◌, ℕ, List, [], ◌∷◌, ◌++◌, Bool, true, false, cond, refl, ap, sym, ◌∙◌, subst, Option, Some, None, length, take, drop, arith, zero, suc}
-use Rattle.std.specs.Prelude.{◌&&◌, ◌||◌, ◌==◌, not, nat_eq, nat_le, codes, IsTrue}
-use Rattle.std.specs.List.{AllByRecursion, list_all, slice_split, onto_first, join_with_byte, starts_with}
-use Rattle.std.specs.Cmp.Lexicographic.{pointwise}
+use Rattle.std.proofs.Common.{◌≡◌, ◌≢◌, ◌≤◌, ℕ, List, [], ◌∷◌, ◌++◌, Bool, true, false, cond, refl, ap, sym, ◌∙◌, subst, Some, length, drop, arith}
+use Rattle.std.specs.Prelude.{◌&&◌, ◌==◌, not, nat_eq, nat_le}
+use Rattle.std.specs.List.{AllByRecursion, list_all, onto_first, starts_with}
 use Rattle.std.proofs.lemmas.Bool.{eqb-true, eq-eqb}
 use Rattle.std.proofs.lemmas.Bool.Decides.{nat_tests, Decides-eqb}
 use Rattle.std.proofs.lemmas.Slice.Eq.{starts_is}
 use Rattle.po_run.specs.Input.{is_name, is_name_byte, begins_name, names_text, text_of}
-use Rattle.po_run.specs.Reading.{◌>>=◌, same, after_word, pieces_of, as_name, name_in, as_names, names_in}
-use Rattle.po_run.proofs.Choices.{and_both, kept, bound, some_is}
+use Rattle.po_run.specs.Reading.{after_word, pieces_of, as_name, name_in, as_names, names_in}
+use Rattle.po_run.proofs.Choices.{and_both, kept, bound}
 
 -- Behind a word
 

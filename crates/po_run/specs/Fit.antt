@@ -4,14 +4,12 @@ use Rattle.std.specs.Option.{option_map}
 use Rattle.po_word.specs.declared.operator.Bin.TheVariants as bin
 use Rattle.po_term.specs.declared.term.Reg.{Reg}
 use Rattle.po_term.specs.declared.term.Reg.TheVariants as reg
-use Rattle.po_term.specs.declared.term.Sym.{Sym}
 use Rattle.po_term.specs.Tree.{Tree, Const, Leaf, Read, Binary}
 use Rattle.po_term.specs.Terms.{Place, InReg}
-use Rattle.po_term.specs.Moves.{Move, SetTo, Ends, Return}
+use Rattle.po_term.specs.Moves.{SetTo, Ends, Return}
 use Rattle.po_run.specs.declared.model.Form.{Form}
 use Rattle.po_run.specs.declared.model.Form.TheVariants as form
 use Rattle.po_run.specs.declared.model.Entry.{Entry}
-use Rattle.po_run.specs.declared.model.Operand.{Operand}
 use Rattle.po_run.specs.declared.model.Operand.TheVariants as operand
 use Rattle.po_run.specs.declared.model.Operands.{Operands}
 use Rattle.po_run.specs.Naive.{Instruction}

@@ -1,5 +1,5 @@
 -- The text of a description and a unit: its lines as they are printed, and what may be printed so.
-use Rattle.std.specs.Prelude.{ℕ, ◌+◌, ◌-◌, ◌^◌, ◌≤◌, ◌<◌, ◌≡◌, ◌≢◌, List, [], ◌∷◌, ◌++◌, length, map, codes, Bool, true, false, IsTrue, nat_le, nat_lt, ◌&&◌, ◌||◌, ◌==◌, not, if◌then◌else◌, ⊤}
+use Rattle.std.specs.Prelude.{ℕ, ◌+◌, ◌-◌, ◌^◌, ◌≤◌, ◌≡◌, ◌≢◌, List, [], ◌∷◌, ◌++◌, length, map, codes, Bool, true, false, IsTrue, nat_le, nat_lt, ◌&&◌, ◌||◌, ◌==◌, not, if◌then◌else◌, ⊤}
 use Rattle.std.specs.List.{list_all, AllByRecursion}
 use Rattle.std.specs.Fmt.{signed_decimal}
 use Rattle.po_word.specs.Words.{signed}

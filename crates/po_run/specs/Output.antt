@@ -1,5 +1,5 @@
 -- What a text compiles to, and why it doesn't compile.
-use Rattle.std.specs.Prelude.{ℕ, ◌≡◌, List, length, Option, Some, None}
+use Rattle.std.specs.Prelude.{ℕ, ◌≡◌, List, length, Some, None}
 use Rattle.po_run.specs.declared.model.Machine.{Machine}
 use Rattle.po_run.specs.declared.model.Unit.{Unit}
 use Rattle.po_run.specs.Input.{IsInput}

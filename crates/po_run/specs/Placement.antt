@@ -1,14 +1,14 @@
 -- Placement: the interval of each virtual register, the machine register that it gets, and the points that are crowded.
 --
 -- Instruction p reads at the point 2 * p and writes at the point 2 * p + 1.
-use Rattle.std.specs.Prelude.{ℕ, zero, suc, ◌+◌, ◌*◌, ◌≤◌, ◌<◌, ◌≡◌, ◌==◌, ◌&&◌, ◌||◌, nat_le, Bool, true, false, List, [], ◌∷◌, ◌++◌, map, count_by, if◌then◌else◌}
+use Rattle.std.specs.Prelude.{ℕ, zero, suc, ◌+◌, ◌*◌, ◌≤◌, ◌<◌, ◌≡◌, ◌==◌, ◌&&◌, ◌||◌, nat_le, Bool, false, List, [], ◌∷◌, ◌++◌, map, count_by, if◌then◌else◌}
 use Rattle.std.specs.List.{list_any}
 use Rattle.po_term.specs.declared.term.Reg.{Reg}
 use Rattle.po_term.specs.declared.term.Reg.TheVariants as reg
 use Rattle.po_term.specs.declared.term.Sym.{Sym}
 use Rattle.po_term.specs.Tree.{Tree, Const, Leaf, Read, Unary, Binary}
 use Rattle.po_term.specs.Terms.{Place, InReg, AtSym}
-use Rattle.po_term.specs.Moves.{Move, SetTo, CcTo, StoreTo, Ends, Ending, GoTo, IfCc, IfTwo, CallOf, Return}
+use Rattle.po_term.specs.Moves.{Move, SetTo, CcTo, StoreTo, Ends, Ending, IfTwo}
 use Rattle.po_run.specs.Naive.{Instruction}
 
 -- whether a term reads the virtual register v

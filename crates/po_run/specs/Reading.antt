@@ -1,5 +1,5 @@
 -- Reading as functions on lists: the value, or nothing. They stand between the code and the grammar of Input, which no clause of a public call needs them for.
-use Rattle.std.specs.Prelude.{ℕ, ◌+◌, ◌-◌, ◌*◌, ◌^◌, ◌%◌, ◌≡◌, List, [], ◌∷◌, ◌++◌, length, take, drop, map, codes, Option, Some, None, Result, Ok, Err, Bool, true, false, not, ◌==◌, ◌&&◌, ◌||◌, nat_le, nat_lt, nat_eq, if◌then◌else◌, ⊤}
+use Rattle.std.specs.Prelude.{ℕ, ◌+◌, ◌-◌, ◌^◌, ◌%◌, ◌≡◌, List, [], ◌∷◌, ◌++◌, length, drop, map, codes, Option, Some, None, Result, Ok, Err, Bool, true, false, not, ◌==◌, ◌&&◌, nat_le, nat_lt, nat_eq, if◌then◌else◌, ⊤}
 use Rattle.std.specs.Option.{option_map}
 use Rattle.std.specs.List.{starts_with, slice_split, list_all, list_any}
 use Rattle.std.specs.Cmp.Lexicographic.{pointwise}

@@ -1,11 +1,10 @@
 -- What each status of the top call says of the source, the sink and the text.
-use Rattle.std.specs.Prelude.{ℕ, ◌+◌, ◌-◌, ◌^◌, ◌≤◌, ◌<◌, ◌≡◌, List, [], ◌∷◌, length, take, map, codes, Option, Some, None, Result, Ok, Err, IfSome, string_bytes, ⊤}
+use Rattle.std.specs.Prelude.{ℕ, ◌-◌, ◌^◌, ◌≤◌, ◌<◌, ◌≡◌, List, [], ◌∷◌, length, take, map, codes, Option, Some, Result, Ok, Err, IfSome, string_bytes, ⊤}
 use Rattle.std.specs.declared.string.String.{String}
 use Rattle.std.specs.declared.vec.Vec.{Vec}
 use Rattle.std.specs.declared.alloc.Global.{Global}
 use Rattle.po_text.specs.Causes.{Rose, before_known, after_known}
 use Rattle.po_text.specs.Place.{place_behind}
-use Rattle.po_text.specs.declared.fault.Kind.{Kind}
 use Rattle.po_text.specs.declared.fault.Kind.TheVariants.{Word, TooMany}
 use Rattle.po_run.specs.declared.model.Machine.{Machine}
 use Rattle.po_run.specs.declared.model.Unit.{Unit}

@@ -29,21 +29,21 @@ pub enum Kind {
     Word,
     /// A number outside its bounds: `arg 4`.
     Number,
-    /// The lower end of a range above its upper end: `%0[9..3]`.
+    /// The lower end of a range above its upper end: `#1[5,4]`.
     Range,
     /// A list of transfers or a template that breaks its form: a digit of two kinds, as `%0 := #0`.
     ListForm,
     /// An instruction that no code can match: `clobber cc` beside `cc := ..`.
     NeverMatches,
-    /// A name that is there already: the second `label a` of a unit.
+    /// A name that is there already: the second `lab a` of a unit.
     Duplicate,
-    /// Fewer values on the stack than the operation takes: `add` after one `const 1`.
+    /// Fewer values on the stack than the operation takes: `add` after one `con 1`.
     StackUnderflow,
-    /// A value left on the stack where it has to be empty: `const 1` right before `label a`.
+    /// A value left on the stack where it has to be empty: `con 1` right before `lab a`.
     StackAtBoundary,
     /// A call without one of its arguments: `call f 2` after `arg 1` alone.
     ArgMissing,
-    /// A jump to a label that isn't in the unit: `jmp a` in a unit without `label a`.
+    /// A jump to a label that isn't in the unit: `jmp a` in a unit without `lab a`.
     NoLabel,
     /// A unit whose last operation isn't a jump or a return: `unit f` and then `end`.
     FallsOff,

@@ -1,11 +1,11 @@
-use Rattle.std.proofs.Common.{◌≡◌, ◌∙◌, sym, ap, subst, List, None}
+use Rattle.std.proofs.Common.{◌∙◌, sym, ap, subst, List}
 use Rattle.po_term.specs.declared.transfer.Instr.{Instr}
 use Rattle.po_term.specs.Moves.{instrs_of}
 use Rattle.po_run.specs.Naive.{naive, Instruction}
 use Rattle.po_run.specs.Fit.{first_unfit}
 use Rattle.po_run.specs.Numbered.{NumberedFrom}
 use Rattle.po_run.proofs.NaiveNumbered.{naive_numbered}
-use Rattle.po_run.proofs.Compiled.{written, assembled, crowded}
+use Rattle.po_run.proofs.Compiled.{written, assembled}
 use Rattle.po_run.proofs.compile.assemble.Goals as goal
 
 -- naive code numbers its registers in order

@@ -1,7 +1,4 @@
-use Rattle.std.proofs.Common.{◌≡◌, ◌∙◌, sym, ap, Ok}
-use Rattle.std.specs.Prelude.{ℤ}
-use Rattle.std.specs.Int.{w32}
-use Rattle.std.specs.Fmt.{signed_decimal}
+use Rattle.std.proofs.Common.{◌≡◌, ◌∙◌, sym, Ok}
 use Rattle.po_run.proofs.Numbers.{printed_utf8, printed_parses, printed_again}
 use Rattle.po_run.proofs.lines.signed_number.Goals as goal
 

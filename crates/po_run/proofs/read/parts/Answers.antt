@@ -1,7 +1,4 @@
-use Rattle.std.proofs.Common.{◌≡◌, ◌∙◌, sym, ap, ◌+◌, length, Some, None, map, take, drop, suc, rules, arith}
-use Rattle.std.specs.Prelude.{codes, position}
-use Rattle.std.proofs.lemmas.List.Quantifiers.{position-Some}
-use Rattle.po_run.specs.Reading.{same, now_of}
+use Rattle.std.proofs.Common.{sym, ◌+◌}
 use Rattle.po_run.proofs.Lists.{rest_whole}
 use Rattle.po_run.proofs.Reading.{parts_some, parts_none}
 use Rattle.po_run.proofs.read.parts.Goals as goal

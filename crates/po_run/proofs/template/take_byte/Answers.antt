@@ -1,4 +1,4 @@
-use Rattle.std.proofs.Common.{◌≡◌, None, ◌≤◌, ◌++◌, ◌∷◌, [], false, ap, sym, ◌∙◌, arith}
+use Rattle.std.proofs.Common.{◌≡◌, None, ◌∷◌, [], false, ap, sym, ◌∙◌}
 use Rattle.po_run.specs.declared.model.Piece.TheVariants as piece
 use Rattle.po_run.specs.Input.{is_mark}
 use Rattle.po_run.specs.Reading.{with_pieces, template_from}
