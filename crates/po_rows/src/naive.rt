@@ -15,6 +15,8 @@ const ADD: &str = "insn %0 := (%1 + %2) => add %0,%1,%2\n";
 
 const MOV_RET: &str = "insn %0 := %1 => mov %0,%1\ninsn ret => ret\nend\n";
 
+const CONSTANT: &str = "unit f\ncon -2147483648\nret\nend\n";
+
 const LOAD_AND_ADD: &str = "unit f\nadl 4\nlod\ncon 1\nadd\nret\nend\n";
 
 const LOADED_AND_ADDED: &str =
@@ -120,7 +122,7 @@ fn refuses(rt: HostRuntime) -> Result<(), Fail> {
         kind: Kind::Word,
     };
     let told_outside = "po: line 1, column 1: Word\n";
-    let rows: [(&[&str], Status, &str); 5] = [
+    let rows: [(&[&str], Status, &str); 4] = [
         (
             &[HEAD, LI, LEA_LD, MOV_RET, LOAD_AND_ADD],
             Status::Unrecognised {
@@ -231,5 +233,60 @@ fn is_too_long(rt: HostRuntime) -> Result<(), Fail> {
         kind: Kind::TooMany,
     };
     assert_eq!(rt; ended.status, too_long);
+    Ok(())
+}
+
+/// Texts that are just outside the grammar, each in one place.
+const OUTSIDE: [[&str; 3]; 15] = [
+    [
+        "machine tiny\nframe fp\nresult rv\nargs a0 a1 a2 a3 a4\nregs r0\n",
+        MOV_RET,
+        CONSTANT,
+    ],
+    [
+        "machine tiny\nframe fp\nresult rv\nargs a0 a1 a2 a3\nregs r0 r0\n",
+        MOV_RET,
+        CONSTANT,
+    ],
+    [
+        "machine tiny\nframe fp\nresult rv\nargs a0 a1 a2 a3\nregs\n",
+        MOV_RET,
+        CONSTANT,
+    ],
+    [
+        "machine tiny\nframe fp\nresult fp\nargs a0 a1 a2 a3\nregs r0\n",
+        MOV_RET,
+        CONSTANT,
+    ],
+    [HEAD, "insn %0 := %1 => mov %0,%2\nend\n", CONSTANT],
+    [HEAD, "insn ret => ret %\nend\n", CONSTANT],
+    [HEAD, "insn ret  => ret\nend\n", CONSTANT],
+    [HEAD, MOV_RET, "unit f\ncon 007\nret\nend\n"],
+    [HEAD, MOV_RET, "unit f\ncon -0\nret\nend\n"],
+    [HEAD, MOV_RET, "unit f\ncon 4294967295\nret\nend\n"],
+    [HEAD, MOV_RET, "unit f\ncon  1\nret\nend\n"],
+    [HEAD, MOV_RET, "unit f\ncon 1\nret\ncon 2\nend\n"],
+    [HEAD, MOV_RET, "unit f\nadd\nret\nend\n"],
+    [HEAD, MOV_RET, "unit f\ncon 1\nret\nend"],
+    [HEAD, MOV_RET, "unit f\ncon 1\nret\nend\n\n"],
+];
+
+/// Only the whole printed form of a description and a unit is read.
+#[test]
+fn is_outside(rt: HostRuntime) -> Result<(), Fail> {
+    let outside = Status::BadText {
+        line: 1,
+        col: 1,
+        kind: Kind::Word,
+    };
+    for parts in &OUTSIDE {
+        let ended = run(rt.alloc(), "naive", text_of(rt.alloc(), parts)?, &GOOD)?;
+        assert_eq!(rt;
+            ended.status,
+            outside,
+            "{} {} {}",
+            parts[0], parts[1], parts[2]
+        );
+    }
     Ok(())
 }
