@@ -23,6 +23,7 @@ const LOADED_AND_ADDED: &str =
     "f:\n  lea r0,4\n  ld r0,(r0)\n  li r1,1\n  add r0,r0,r1\n  mov rv,r0\n  ret\n";
 
 /// How the streams behave: how many bytes a call moves, the calls of each that fail, and the sink's room.
+#[derive(Clone, Copy, Debug)]
 struct Streams {
     most: usize,
     read_fails: u64,
@@ -149,11 +150,6 @@ fn refuses(rt: HostRuntime) -> Result<(), Fail> {
         ),
         (
             &[HEAD, LI, ADD, MOV_RET, "unit f\ncon 1\nneg\nret\nend\n"],
-            outside,
-            told_outside,
-        ),
-        (
-            &[HEAD, LI, MOV_RET, "unit f\ncon 1\nret\nend"],
             outside,
             told_outside,
         ),
