@@ -1,0 +1,6 @@
+//! Stack code. Today its names alone.
+#![tactic(auto)]
+
+mod name;
+
+pub use name::Name;
