@@ -1,13 +1,13 @@
-// A library with one function.
+//! The data of descriptions and of code, and the definitions over them that the crates above cite.
+//!
+//! `machine` has what a description says; `code` has a unit's code; `pair` has two instructions that may become one. The definitions
+//! stand in specs/: `Patterns` (an entry's pattern as plain moves), `Fit` (the first entry that fits).
 #![tactic(auto)]
 
-ghost use Rattle.std.specs.Prelude.{◌≡◌};
-ghost use Rattle.po_model.specs.Echo.{echo_of};
+mod code;
+mod machine;
+mod pair;
 
-// The `ensures` clause is the contract: what `echo` returns is `echo_of` of its argument, a definition
-// in `specs/Echo.antt`, which a caller's clause can cite too.
-pub fn echo(x: usize) -> usize
-    ensures { result ≡ echo_of x }
-{
-    x
-}
+pub use code::{Block, Code, UnitCode};
+pub use machine::{Entry, Machine, PatCond, PatReg, PatTerm, PatTransfer, Piece};
+pub use pair::{Live, Outcome, Pair};
