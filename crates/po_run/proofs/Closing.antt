@@ -1,5 +1,5 @@
 -- Spans that are still being read, and the intervals that they become.
-use Rattle.std.proofs.Common.{◌≡◌, ℕ, ◌+◌, ◌*◌, ◌<◌, ◌≤◌, List, [], ◌∷◌, ◌++◌, length, get_or, drop, map, subst,  refl, sym, ap, ◌∙◌, zero, suc, arith, Bool, true, false, cond, ◌⊎◌, inl, inr, add-zero, append-nil, append_assoc, length-append}
+use Rattle.std.proofs.Common.{◌≡◌, ℕ, ◌+◌, ◌*◌, ◌<◌, ◌≤◌, List, [], ◌∷◌, ◌++◌, length, get_or, drop, map, subst, refl, sym, ap, ◌∙◌, zero, suc, arith, Bool, true, false, cond, ◌⊎◌, inl, inr, add-zero, append-nil, append_assoc, length-append}
 use Rattle.std.specs.List.{list_any}
 use Rattle.po_term.specs.declared.term.Reg.{Reg}
 use Rattle.po_term.specs.declared.term.Reg.TheVariants as reg
@@ -86,7 +86,7 @@ spans_next xs p x ss ts whole h e read closes ordered =
     let is = instrs_of (drop (p + 1) xs) in
     let numbers : NumberedFrom (length ss) (instr_of x ∷ is) = subst (λ (ys : List Instr). NumberedFrom (length ss) (instrs_of ys)) rest ordered in
     let before : closed 0 p (instr_of x ∷ is) ss ++ intervals_from p (instr_of x ∷ is) ≡ whole =
-        subst (λ (ys : List Instr). closed 0 p (instrs_of ys) ss ++ intervals_from p (instrs_of ys) ≡ whole) rest closes in
+    subst (λ (ys : List Instr). closed 0 p (instrs_of ys) ss ++ intervals_from p (instrs_of ys) ≡ whole) rest closes in
     rw read (sym (closes_next p (instr_of x) is ss numbers) ∙ before, numbered_next (2 * p) (2 * p + 1) (instr_of x) is ss numbers)
 
 pub spans_end : (xs : List Instr) (p : ℕ) (ss : List Span) (whole : List Interval) → length xs ≤ p →

@@ -6,10 +6,8 @@ use Rattle.std.proofs.Math.Seq.{take-length}
 use Rattle.po_term.specs.declared.term.Reg.{Reg}
 use Rattle.po_term.specs.declared.term.Reg.TheVariants as reg
 use Rattle.po_term.specs.declared.transfer.Transfer.{Transfer}
-use Rattle.po_term.specs.declared.term.Sym.{Sym}
-use Rattle.po_term.specs.declared.term.Term.{Term, Num, Addr}
 use Rattle.po_term.specs.Tree.{Tree}
-use Rattle.po_term.specs.Terms.{Place, tree_of}
+use Rattle.po_term.specs.Terms.{Place}
 use Rattle.po_term.specs.Moves.{move_of}
 use Rattle.po_run.specs.Placement.{register_is, tree_reads, move_reads}
 use Rattle.po_run.specs.Spans.{marked, sets_virtual, opened}
@@ -76,10 +74,6 @@ marks_end xs j point ss h = rw (behind_all xs j h) (marked-none point 0 ss)
 pub marks_both : (a b : Tree ℕ Place) (point : ℕ) (ss ts us : List Span) → ts ≡ marked (λ v. tree_reads v a) point 0 ss → us ≡ marked (λ v. tree_reads v b) point 0 ts →
     us ≡ marked (λ v. tree_reads v a || tree_reads v b) point 0 ss
 marks_both a b point ss ts us d e = let h = marked-twice (λ (v : ℕ). tree_reads v a) (λ (v : ℕ). tree_reads v b) point 0 ss in e ∙ (rw d h)
-
-pub number_marks : (t : Term) (point : ℕ) (ss : List Span) → ((n : ℕ) × (t ≡ Num n)) ⊎ ((s : Sym) × (t ≡ Addr s)) → ss ≡ marked (λ v. tree_reads v (tree_of t)) point 0 ss
-number_marks t point ss (inl (n, e)) = rw e (sym (marked-none point 0 ss))
-number_marks t point ss (inr (n, e)) = rw e (sym (marked-none point 0 ss))
 
 pub marked-same : (f g : ℕ → Bool) (point k : ℕ) (ss : List Span) → ((v : ℕ) → f v ≡ g v) → marked f point k ss ≡ marked g point k ss
 marked-same f g point k [] h = refl

@@ -14,8 +14,8 @@ pub lowest_is : (done : List Placed) (point k m r : ℕ) → k ≤ r → r < k +
 lowest_is done point k zero r low high free busy = absurd (omega arith)
 lowest_is done point k (suc m) r low high free busy =
     elim (cases_eq k r) [
-      inl e ↦ let f : is_taken done point k ≡ false = rw e free in rw (f, e) refl
-    | inr e ↦ rw (busy k (omega arith) (omega arith)) (lowest_is done point (k + 1) m r (omega arith) (omega arith) free (λ j l h. busy j (omega arith) h))
+      | inl e ↦ let f : is_taken done point k ≡ false = rw e free in rw (f, e) refl
+      | inr e ↦ rw (busy k (omega arith) (omega arith)) (lowest_is done point (k + 1) m r (omega arith) (omega arith) free (λ j l h. busy j (omega arith) h))
     ]
 
 -- how many of these numbers reach a point
@@ -89,13 +89,13 @@ taken_next : (i : Interval) (done : List Placed) (ends : List ℕ) (r q k : ℕ)
     ((r == k) && contains i q || is_taken done q k) ≡ nat_le q (get_or (set ends r i.finish) k 0)
 taken_next i done ends r q k later small free before =
     elim (cases_eq r k) [
-      inl e ↦
-        let at : get_or (set ends r i.finish) k 0 ≡ i.finish = rw (← e) (get_or-set_same {A = ℕ} ends r i.finish 0 small) in
-        let past : nat_le q (get_or ends k 0) ≡ false = lt-leb q (get_or ends k 0) (rw (← e) (omega arith)) in
-        rw (eq-eqb r k e, contains_from i q (omega arith), before, past, at) (or_nothing (nat_le q i.finish))
-    | inr n ↦
-        let at : get_or (set ends r i.finish) k 0 ≡ get_or ends k 0 = get_or-set_other {A = ℕ} ends r k i.finish 0 (λ e. n (sym e)) in
-        rw (ne_eqb r k n, before, at) refl
+      | inl e ↦
+          let at : get_or (set ends r i.finish) k 0 ≡ i.finish = rw (← e) (get_or-set_same {A = ℕ} ends r i.finish 0 small) in
+          let past : nat_le q (get_or ends k 0) ≡ false = lt-leb q (get_or ends k 0) (rw (← e) (omega arith)) in
+          rw (eq-eqb r k e, contains_from i q (omega arith), before, past, at) (or_nothing (nat_le q i.finish))
+      | inr n ↦
+          let at : get_or (set ends r i.finish) k 0 ≡ get_or ends k 0 = get_or-set_other {A = ℕ} ends r k i.finish 0 (λ e. n (sym e)) in
+          rw (ne_eqb r k n, before, at) refl
     ]
 
 -- how many ends reach a point, once the end of a free register is moved
@@ -108,9 +108,9 @@ reaching_set ends r q f small free =
 
 same_suc : (a b : ℕ) → (suc a == suc b) ≡ (a == b)
 same_suc a b = elim (cases_eq a b) [
-    inl e ↦ eq-eqb (suc a) (suc b) (ap suc e) ∙ sym (eq-eqb a b e)
+  | inl e ↦ eq-eqb (suc a) (suc b) (ap suc e) ∙ sym (eq-eqb a b e)
   | inr n ↦ ne_eqb (suc a) (suc b) (λ e. n (omega (arith, e))) ∙ sym (ne_eqb a b n)
-  ]
+]
 
 machine_next : (regs : List ℕ) (r v : ℕ) → cond (length regs == v) r (get_or regs v 0) ≡ get_or (regs ++ r ∷ []) v 0
 machine_next [] r zero = refl
@@ -135,23 +135,23 @@ past_next : (n : ℕ) (i : Interval) (js : List Interval) (ends : List ℕ) (r n
 past_next n i js ends r now q held early small free upto counted past =
     let one = count-cons (λ (j : Interval). contains j q) i js in
     elim (cases_lt q i.start) [
-      inl before ↦
-        let none : contains i q ≡ false = contains_later i q before in
-        let same : ◌≡◌ {A = ℕ} (cond (contains i q) 1 0) 0 = rw none refl in
-        elim (cases_lt q now) [
-          inl h ↦ let few = past h in omega (arith, one, same)
-        | inr h ↦ let few = counted h in let most = count_by-le-length (λ (e : ℕ). nat_le q e) ends in omega (arith, one, same, few, most)
-        ]
-    | inr at ↦
-        let here : q ≡ i.start = omega arith in
-        let few = counted (omega arith) in
-        let more = reaching_set ends r q q small (omega arith) in
-        let reached : nat_le q q ≡ true = le-leb q q (omega arith) in
-        let grown : ◌≡◌ {A = ℕ} (cond (nat_le q q) 1 0) 1 = rw reached refl in
-        let most = count_by-le-length (λ (e : ℕ). nat_le q e) (set ends r q) in
-        let long = length-set {A = ℕ} ends r q in
-        let at_most : cond (contains i q) 1 0 ≤ 1 = one_at_most (contains i q) in
-        omega (arith, one, few, more, grown, most, long, at_most)
+      | inl before ↦
+          let none : contains i q ≡ false = contains_later i q before in
+          let same : ◌≡◌ {A = ℕ} (cond (contains i q) 1 0) 0 = rw none refl in
+          elim (cases_lt q now) [
+            | inl h ↦ let few = past h in omega (arith, one, same)
+            | inr h ↦ let few = counted h in let most = count_by-le-length (λ (e : ℕ). nat_le q e) ends in omega (arith, one, same, few, most)
+          ]
+      | inr at ↦
+          let here : q ≡ i.start = omega arith in
+          let few = counted (omega arith) in
+          let more = reaching_set ends r q q small (omega arith) in
+          let reached : nat_le q q ≡ true = le-leb q q (omega arith) in
+          let grown : ◌≡◌ {A = ℕ} (cond (nat_le q q) 1 0) 1 = rw reached refl in
+          let most = count_by-le-length (λ (e : ℕ). nat_le q e) (set ends r q) in
+          let long = length-set {A = ℕ} ends r q in
+          let at_most : cond (contains i q) 1 0 ≤ 1 = one_at_most (contains i q) in
+          omega (arith, one, few, more, grown, most, long, at_most)
     ]
 
 pub standing_step : (n : ℕ) (all : List Interval) (i : Interval) (left : List Interval) (ends regs : List ℕ) (r : ℕ) → Standing n all (i ∷ left) ends regs →
@@ -162,7 +162,7 @@ standing_step n all i left ends regs r st number small free busy =
     let held : length ends ≡ n = st.held in
     let open_r : is_taken st.done i.start r ≡ false = st.taken i.start r early (omega arith) ∙ lt-leb i.start (get_or ends r 0) free in
     let lowest : lowest_from st.done i.start 0 n ≡ r = lowest_is st.done i.start 0 n r (omega arith) (omega arith) open_r
-        (λ k a b. st.taken i.start k early (omega arith) ∙ le-leb i.start (get_or ends k 0) (busy k b)) in
+    (λ k a b. st.taken i.start k early (omega arith) ∙ le-leb i.start (get_or ends k 0) (busy k b)) in
     record {
       done = record { interval = i; machine = r } ∷ st.done;
       now = i.start + 1;
@@ -182,8 +182,8 @@ standing_step n all i left ends regs r st number small free busy =
 pub standing_uncrowded : (n : ℕ) (all : List Interval) (ends regs : List ℕ) → Standing n all [] ends regs → IsUncrowded n all
 standing_uncrowded n all ends regs st q =
     elim (cases_lt q st.now) [
-      inl h ↦ omega (arith, st.total q, st.past q h)
-    | inr h ↦ omega (arith, st.total q, st.counted q h, count_by-le-length (λ (e : ℕ). nat_le q e) ends)
+      | inl h ↦ omega (arith, st.total q, st.past q h)
+      | inr h ↦ omega (arith, st.total q, st.counted q h, count_by-le-length (λ (e : ℕ). nat_le q e) ends)
     ]
 
 pub standing_machines : (n : ℕ) (all : List Interval) (ends regs : List ℕ) → Standing n all [] ends regs → (v : ℕ) → machine_of (place_from n [] all) v ≡ get_or regs v 0
@@ -204,9 +204,9 @@ standing_crowded n all i left ends regs st busy =
       count = omega (arith, st.total i.start, st.counted i.start early, full, one, single, later, st.held);
       over = omega arith;
       first = λ q h.
-        let none : count_at (i ∷ left) q ≡ 0 = later_none q i.start (i ∷ left) h (omega arith, ordered, st.rising.2) in
-        elim (cases_lt q st.now) [
-          inl l ↦ omega (arith, st.total q, st.past q l, none)
-        | inr l ↦ omega (arith, st.total q, st.counted q l, count_by-le-length (λ (e : ℕ). nat_le q e) ends, none, st.held)
-        ];
+          let none : count_at (i ∷ left) q ≡ 0 = later_none q i.start (i ∷ left) h (omega arith, ordered, st.rising.2) in
+          elim (cases_lt q st.now) [
+            | inl l ↦ omega (arith, st.total q, st.past q l, none)
+            | inr l ↦ omega (arith, st.total q, st.counted q l, count_by-le-length (λ (e : ℕ). nat_le q e) ends, none, st.held)
+          ];
     }

@@ -18,7 +18,8 @@ use po_term::{Cond, Instr, Reg, Term, Transfer};
 use po_word::OutOfMemory;
 use std::alloc::Global;
 
-/// Where virtual registers stand, or the first crowded point.
+/// Where virtual registers stand, or the first crowded point (docs/LANGUAGE.md, "Placement").
+#[derive(Drop)]
 pub enum Placing {
     /// By the number of the virtual register, the index of its machine register.
     Placed(Vec<u32>),
@@ -33,7 +34,8 @@ pub struct Span {
     pub finish: u32,
 }
 
-/// The machine register of each virtual register, on machine registers 0 to count - 1.
+/// Gives each virtual register one of `count` machine registers, 0 to `count` - 1, or tells where there are too few
+/// (docs/LANGUAGE.md, "Placement").
 pub fn place(alloc: Global, count: usize, code: &[Instr]) -> Result<Placing, OutOfMemory>
     requires few { count ≤ 64 }
     requires short { length code.now < 2 ^ 29 }
@@ -64,7 +66,10 @@ fn note_instr(instr: &Instr, point: u32, spans: &mut Vec<Span>) -> Result<(), Ou
 {
     note_reads(instr, point, spans);
     if writes_virtual(instr) {
-        spans.push(Span { start: point + 1, finish: point + 1 })?;
+        spans.push(Span {
+            start: point + 1,
+            finish: point + 1,
+        })?;
     }
     Ok(())
 }
@@ -123,7 +128,8 @@ fn note_term(term: &Term, point: u32, spans: &mut [Span])
     ensures { spans.new ≡ marked (λ v. tree_reads v (tree_of term.now)) point 0 spans.old }
 {
     match term {
-        Term::Num(_) | Term::Addr(_) => {}
+        Term::Num(_) => {}
+        Term::Addr(_) => {}
         Term::Reg(reg) => note_register(*reg, point, spans),
         Term::Mem(t) | Term::Un(_, t) => note_term(t, point, spans),
         Term::Bin(_, t, u) => {
@@ -154,7 +160,10 @@ fn place_spans(alloc: Global, count: usize, spans: &[Span]) -> Result<Placing, O
     let mut regs = Vec::new(alloc);
     for span in spans {
         let Some(free) = lowest_free(&ends, span.start) else {
-            return Ok(Placing::Crowded { point: span.start, needed: count as u32 + 1 });
+            return Ok(Placing::Crowded {
+                point: span.start,
+                needed: count as u32 + 1,
+            });
         };
         ends[free] = span.finish;
         regs.push(free as u32)?;
@@ -169,3 +178,6 @@ fn lowest_free(ends: &[u32], point: u32) -> Option<usize>
 {
     ends.iter().position(|end| *end < point)
 }
+
+#[cfg(test)]
+mod tests;

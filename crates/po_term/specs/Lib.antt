@@ -1,3 +1,9 @@
 pub mod Tree
 pub mod Terms
 pub mod Moves
+pub mod Form
+pub mod Kinds
+pub mod Simplified
+pub mod Worth
+pub mod Actions
+pub mod MoveMap

@@ -18,7 +18,7 @@ tree_size (Read x) = 1 + tree_size x
 tree_size (Unary o x) = 1 + tree_size x
 tree_size (Binary o x y) = 1 + tree_size x + tree_size y
 
--- how deep a tree is
+-- how deep a tree is: 1 for a leaf, and one more than its deepest operand else
 abbrev pub tree_depth : {K L : Type 0} → Tree K L → ℕ
 tree_depth (Const c) = 1
 tree_depth (Leaf l) = 1
@@ -41,3 +41,11 @@ EachConst P (Leaf l) = Unit {0}
 EachConst P (Read x) = EachConst P x
 EachConst P (Unary o x) = EachConst P x
 EachConst P (Binary o x y) = EachConst P x × EachConst P y
+
+-- a fact of each other leaf of a tree
+abbrev pub EachLeaf : {K L : Type 0} → (L → Type 0) → Tree K L → Type 0
+EachLeaf P (Const c) = Unit {0}
+EachLeaf P (Leaf l) = P l
+EachLeaf P (Read x) = EachLeaf P x
+EachLeaf P (Unary o x) = EachLeaf P x
+EachLeaf P (Binary o x y) = EachLeaf P x × EachLeaf P y

@@ -13,5 +13,5 @@ one_digit value digits i h =
     let first : ℕ = get_or digits i 0 in
     let power : 10 ^ length (first ∷ later) ≡ 10 ^ length later * 10 = ap (λ (n : ℕ). 10 ^ n) (sym (add-one (length later))) ∙ pow_more 10 (length later) in
     sym (at_drop_more (λ (rest : List ℕ). value * 10 ^ length rest + digits_value rest) digits i 0 h
-        ∙ ap (λ (n : ℕ). value * n + ((first - 48) * 10 ^ length later + digits_value later)) power
-        ∙ sym (moved value (first - 48) (10 ^ length later) (digits_value later)))
+    ∙ ap (λ (n : ℕ). value * n + ((first - 48) * 10 ^ length later + digits_value later)) power
+    ∙ sym (moved value (first - 48) (10 ^ length later) (digits_value later)))

@@ -83,7 +83,7 @@ behind_word line at end so_far all is e =
     let rest : drop (count + 1) (drop at line) ≡ drop (end + 1) line = drop-drop (count + 1) at line ∙ ap (λ (n : ℕ). drop n line) place in
     append_assoc so_far (word_between at end) (words_from (end + 1) (drop (end + 1) line))
     ∙ ap (λ (words : List Span). so_far ++ words) (
-        ap (λ (n : ℕ). word_between at n ++ words_from (n + 1) (drop (end + 1) line)) is
-        ∙ ap (λ (bytes : List ℕ). word_between at (at + count) ++ words_from (at + count + 1) bytes) (sym rest)
-        ∙ sym (next_word (drop at line) at))
+    ap (λ (n : ℕ). word_between at n ++ words_from (n + 1) (drop (end + 1) line)) is
+    ∙ ap (λ (bytes : List ℕ). word_between at (at + count) ++ words_from (at + count + 1) bytes) (sym rest)
+    ∙ sym (next_word (drop at line) at))
     ∙ e

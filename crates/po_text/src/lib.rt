@@ -9,6 +9,8 @@ mod number;
 mod sink;
 mod source;
 mod standard;
+#[cfg(test)]
+mod tests;
 mod words;
 
 pub use fault::{Kind, OutOfMemory, ReadRefusal, Span, Spot, TextRefusal, WriteFault};

@@ -1,4 +1,4 @@
-use Rattle.std.proofs.Common.{◌≡◌, ◌++◌, ◌≤◌, ◌*◌, drop, length, true, List}
+use Rattle.std.proofs.Common.{◌≡◌, ◌++◌, ◌≤◌, ◌*◌, drop, length, true}
 use Rattle.std.specs.Prelude.{reverse}
 use Rattle.po_term.specs.Moves.{instrs_of}
 use Rattle.po_run.specs.Naive.{naive_from, naive}

@@ -1,0 +1,7 @@
+pub mod Acts
+pub mod Folds
+pub mod Follows
+pub mod Instances
+pub mod MoveFollows
+pub mod PlusStages
+pub mod Worths

@@ -1,0 +1,9 @@
+pub mod Options
+pub mod Words
+pub mod Numbers
+pub mod Depths
+pub mod Sizes
+pub mod Leaves
+pub mod Found
+pub mod Again
+pub mod Whole

@@ -1,0 +1,7 @@
+use Rattle.std.proofs.lemmas.Slice.Eq.{strip_prefix_is}
+use Rattle.std.proofs.lemmas.Bool.Decides.{Decides-eqb}
+use Rattle.po_termtext.proofs.Words.{behind_is}
+use Rattle.po_termtext.proofs.word.behind.Goals as goal
+
+pub returns : goal.returns
+returns c = behind_is c.args.mark.now c.args.text.now c.strip_prefix.result (strip_prefix_is Decides-eqb c.args.text.now c.args.mark.now c.strip_prefix.result c.strip_prefix.ensures.cases)

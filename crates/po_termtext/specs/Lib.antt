@@ -1,0 +1,4 @@
+pub mod TermText
+pub mod Reading
+pub mod Gives
+pub mod Form

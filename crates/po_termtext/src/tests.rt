@@ -1,0 +1,151 @@
+//! Texts that are terms and texts that are none, and printed instructions.
+use crate::{one_term_a_text, print_instr, print_term, read_term};
+use po_term::{Cond, Instr, Label, Reg, Sym, Term, Transfer};
+use po_word::{Bin, Rel};
+use std::test::Fail;
+
+/// Each is a term's text. The last two are at the limits: depth 16, and 64 nodes.
+const TERMS: [&str; 24] = [
+    "v0",
+    "v1",
+    "v4294967295",
+    "fp",
+    "rv",
+    "arg0",
+    "arg3",
+    "&s0",
+    "&s12",
+    "0",
+    "12",
+    "-1",
+    "2147483647",
+    "-2147483648",
+    "(v0 + 5)",
+    "(v1 + -5)",
+    "(v0 - -5)",
+    "M[(fp - 8)]",
+    "neg(v1)",
+    "not(M[&s3])",
+    "(1 * (2 & (3 | (4 ^ 5))))",
+    "((v0 << 1) >> (v1 >>> 31))",
+    "M[M[M[M[M[M[M[M[M[M[M[M[M[M[M[v0]]]]]]]]]]]]]]]",
+    "neg((((((v0 + v0) + (v0 + v0)) + ((v0 + v0) + (v0 + v0))) + (((v0 + v0) + (v0 + v0)) + ((v0 + v0) + (v0 + v0)))) + ((((v0 + v0) + (v0 + v0)) + ((v0 + v0) + (v0 + v0))) + (((v0 + v0) + (v0 + v0)) + ((v0 + v0) + (v0 + v0))))))",
+];
+
+/// None is a term's text. The last two are beyond the limits: depth 17, and 65 nodes.
+const OTHERS: [&str; 37] = [
+    "",
+    "(v0",
+    "-0",
+    "007",
+    "2147483648",
+    "-2147483649",
+    "4294967296",
+    "99999999999999999999",
+    "v01",
+    "v",
+    "v4294967296",
+    "arg4",
+    "arg",
+    "sp",
+    "&s",
+    "&s00",
+    "&7",
+    "+5",
+    "(v0 +v1)",
+    "(v0+ v1)",
+    "(v0  + v1)",
+    "( v0 + v1)",
+    "(v0 + v1) ",
+    "(v0 + v1))",
+    "(v0 >>>> v1)",
+    "(v0 > v1)",
+    "(v0 / v1)",
+    "v0 + v1",
+    "M[v0",
+    "M v0]",
+    "M[v0)",
+    "neg v0",
+    "neg(v0]",
+    "v0 ",
+    "V0",
+    "M[M[M[M[M[M[M[M[M[M[M[M[M[M[M[M[v0]]]]]]]]]]]]]]]]",
+    "neg(neg((((((v0 + v0) + (v0 + v0)) + ((v0 + v0) + (v0 + v0))) + (((v0 + v0) + (v0 + v0)) + ((v0 + v0) + (v0 + v0)))) + ((((v0 + v0) + (v0 + v0)) + ((v0 + v0) + (v0 + v0))) + (((v0 + v0) + (v0 + v0)) + ((v0 + v0) + (v0 + v0)))))))",
+];
+
+#[test]
+fn texts_are_read(rt: HostRuntime) -> Result<(), Fail> {
+    for text in TERMS {
+        match read_term(rt.alloc(), text.as_bytes())? {
+            Some(term) => {
+                let printed = print_term(rt.alloc(), &term)?;
+                assert_eq!(rt; printed.as_slice(), text.as_bytes());
+            }
+            None => panic!(rt; "{text} is a term"),
+        }
+    }
+    for text in OTHERS {
+        let read = read_term(rt.alloc(), text.as_bytes())?;
+        assert!(rt; read.is_none(), "{text} is no term");
+    }
+    let brackets = vec![in rt.alloc(); b'('; 4096]?;
+    assert!(rt; read_term(rt.alloc(), &brackets)?.is_none());
+    one_term_a_text();
+    Ok(())
+}
+
+#[test]
+fn instructions_are_printed(rt: HostRuntime) -> Result<(), Fail> {
+    let v0 = Box::new(rt.alloc(), Term::Reg(Reg::Virt(0)))?;
+    let v1 = Box::new(rt.alloc(), Term::Reg(Reg::Virt(1)))?;
+    let five = Box::new(rt.alloc(), Term::Num(5))?;
+    let minus_five = Box::new(rt.alloc(), Term::Num(4294967291))?;
+    let four = Instr {
+        xs: vec![in rt.alloc();
+            Transfer::Set(Reg::Virt(1), Term::Bin(Bin::Add, v0, five)),
+            Transfer::Cc(Term::Bin(Bin::Add, v1, minus_five), Term::Num(0)),
+            Transfer::Store(Term::Reg(Reg::Fp), Term::Addr(Sym(7))),
+            Transfer::If(Cond::Cc, Rel::Ltu, Label(3)),
+        ]?,
+    };
+    let text = print_instr(rt.alloc(), &four)?;
+    assert_eq!(rt;
+        text.as_slice(),
+        b"v1 := (v0 + 5) ; cc := (v1 + -5) ? 0 ; M[fp] := &s7 ; if cc ltu goto L3".as_slice()
+    );
+    let branch = Instr {
+        xs: vec![in rt.alloc();
+            Transfer::If(
+                Cond::Two(Term::Num(1), Term::Reg(Reg::Arg(2))),
+                Rel::Ge,
+                Label(12)
+            ),
+        ]?,
+    };
+    assert_eq!(rt;
+        print_instr(rt.alloc(), &branch)?.as_slice(),
+        b"if 1 ? arg2 ge goto L12".as_slice()
+    );
+    let call = Instr {
+        xs: vec![in rt.alloc(); Transfer::Call(Sym(2), 3)]?,
+    };
+    assert_eq!(rt;
+        print_instr(rt.alloc(), &call)?.as_slice(),
+        b"call &s2 3".as_slice()
+    );
+    let jump = Instr {
+        xs: vec![in rt.alloc(); Transfer::Goto(Label(0))]?,
+    };
+    assert_eq!(rt;
+        print_instr(rt.alloc(), &jump)?.as_slice(),
+        b"goto L0".as_slice()
+    );
+    let back = Instr {
+        xs: vec![in rt.alloc(); Transfer::Ret]?,
+    };
+    assert_eq!(rt;
+        print_instr(rt.alloc(), &back)?.as_slice(),
+        b"ret".as_slice()
+    );
+    Ok(())
+}
