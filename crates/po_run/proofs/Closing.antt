@@ -1,12 +1,11 @@
 -- Spans that are still being read, and the intervals that they become.
-use Rattle.std.proofs.Common.{◌≡◌, ℕ, ◌+◌, ◌*◌, ◌<◌, ◌≤◌, List, [], ◌∷◌, ◌++◌, length, get_or, drop, map, subst, refl, sym, ap, ◌∙◌, zero, suc, arith, Bool, true, false, cond, ◌⊎◌, inl, inr, add-zero, append-nil, append_assoc, length-append}
+use Rattle.std.proofs.Common.{◌≡◌, ℕ, ◌+◌, ◌*◌, ◌<◌, ◌≤◌, List, [], ◌∷◌, ◌++◌, length, get_or, drop, subst, refl, sym, ap, ◌∙◌, arith, Bool, true, false, cond, inl, inr, add-zero, append-nil, append_assoc, length-append}
 use Rattle.std.specs.List.{list_any}
-use Rattle.po_term.specs.declared.term.Reg.{Reg}
 use Rattle.po_term.specs.declared.term.Reg.TheVariants as reg
 use Rattle.po_term.specs.Moves.{SetTo, instr_of, instrs_of}
 use Rattle.po_term.specs.declared.transfer.Instr.{Instr}
 use Rattle.po_run.specs.Naive.{Instruction}
-use Rattle.po_run.specs.Placement.{Interval, written, reads, last_read, interval_of, intervals_from}
+use Rattle.po_run.specs.Placement.{Interval, written, reads, last_read, intervals_from}
 use Rattle.po_run.specs.Numbered.{NumberedFrom}
 use Rattle.po_run.specs.Spans.{numbered, marked, sets_virtual, opened, Rising}
 use Rattle.po_run.specs.declared.place.Span.{Span}

@@ -37,8 +37,8 @@ assembled m u n is regs out same count fits room at e =
       ap (first_unfit m.entries) (sym same) ∙ fits,
       subst (λ (k : ℕ). IsUncrowded k (intervals (naive u.ops))) count room_here,
       e
-      ∙ ap (λ js. u.name ++ codes ":\n" ++ lines_of m (λ v. slice_index regs v) js) same
-      ∙ ap (λ ls. u.name ++ codes ":\n" ++ ls) (lines_same m (λ v. slice_index regs v) (machine_of (placement (length m.regs) (naive u.ops))) (naive u.ops) (λ v. sym (at_count v))),
+          ∙ ap (λ js. u.name ++ codes ":\n" ++ lines_of m (λ v. slice_index regs v) js) same
+          ∙ ap (λ ls. u.name ++ codes ":\n" ++ ls) (lines_same m (λ v. slice_index regs v) (machine_of (placement (length m.regs) (naive u.ops))) (naive u.ops) (λ v. sym (at_count v))),
     )
 
 -- a code with a crowded point

@@ -1,5 +1,5 @@
 -- Spans that are marked: by no test, by one register, by one test after another.
-use Rattle.std.proofs.Common.{◌≡◌, ◌≢◌, ℕ, ◌+◌, ◌<◌, ◌≤◌, List, [], ◌∷◌, length, get_or, set, drop, map, refl, sym, ap, zero, suc, arith, Bool, true, false, cond, ◌||◌, ◌==◌, ◌∙◌, ◌⊎◌, inl, inr, ◌++◌, take, append-nil}
+use Rattle.std.proofs.Common.{◌≡◌, ℕ, ◌+◌, ◌<◌, ◌≤◌, List, [], ◌∷◌, length, get_or, set, drop, map, refl, sym, ap, zero, suc, arith, Bool, true, false, cond, ◌||◌, ◌==◌, ◌∙◌, ◌++◌, take, append-nil}
 use Rattle.std.proofs.lemmas.Bool.{eq-eqb, ne_eqb}
 use Rattle.std.specs.List.{list_any}
 use Rattle.std.proofs.Math.Seq.{take-length}

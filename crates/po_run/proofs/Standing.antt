@@ -1,12 +1,13 @@
 -- The state of placement between two intervals, and what it gives at the end and where no register is free.
-use Rattle.std.proofs.Common.{◌≡◌, ℕ, ◌+◌, ◌<◌, ◌≤◌, List, [], ◌∷◌, ◌++◌, length, get_or, set, map, refl, sym, ap, ◌∙◌, subst, zero, suc, arith, Bool, true, false, cond, ◌&&◌, ◌||◌, ◌==◌, nat_le, replicate, ◌⊎◌, inl, inr, add-zero, zero-add, length-append, get_or-set_same, get_or-set_other}
-use Rattle.std.specs.List.{list_any, count_by, sum_by, All}
-use Rattle.std.proofs.lemmas.Bool.{eq-eqb, ne_eqb, le-leb, lt-leb, cases_lt, cases_eq}
-use Rattle.std.proofs.lemmas.List.{length-set, get_or_push, get_or_append_left, get_or_past, get_or-replicate, length-replicate}
+use Rattle.std.proofs.Common.{◌≡◌, ℕ, ◌+◌, ◌<◌, ◌≤◌, List, [], ◌∷◌, ◌++◌, length, get_or, set, map, refl, sym, ap, ◌∙◌, zero, suc, arith, Bool, true, false, cond, ◌&&◌, ◌||◌, ◌==◌, nat_le, replicate, inl, inr, get_or-set_same, get_or-set_other}
+use Rattle.std.specs.List.{count_by, All}
+use Rattle.std.proofs.lemmas.Bool.{eq-eqb, ne_eqb, le-leb, lt-leb, leb-true, leb-false, and_parts, or_parts, cases_lt, cases_eq}
+use Rattle.std.proofs.lemmas.List.{length-set, get_or_past, get_or-replicate, length-replicate}
 use Rattle.std.proofs.lemmas.List.Sums.{sum_by-set, sum_by-cons, count_by-le-length}
 use Rattle.std.proofs.lemmas.List.Elements.{All-push}
 use Rattle.po_run.specs.Placement.{Interval, Placed, contains, count_at, IsUncrowded, IsCrowded, is_taken, lowest_from, place_from, machine_of}
 use Rattle.po_run.specs.Spans.{Rising}
+use Rattle.po_run.specs.Places.{AreApart}
 
 -- where register r is free and those from k on below it are taken, it is the lowest from k on
 pub lowest_is : (done : List Placed) (point k m r : ℕ) → k ≤ r → r < k + m → is_taken done point r ≡ false →
@@ -56,6 +57,8 @@ pub record Standing (n : ℕ) (all left : List Interval) (ends regs : List ℕ) 
   pub past : (q : ℕ) → q < now → count_at (map (λ d. d.interval) done) q ≤ n
   pub machines : (v : ℕ) → machine_of done v ≡ get_or regs v 0
   pub below : All (λ r. r < n) regs
+  pub early : (k : ℕ) (d : Placed) → k < length done → (get_or done k d).interval.start < now
+  pub apart : AreApart done
 
 pub standing_begin : (n : ℕ) (is : List Interval) → Rising 1 is → Standing n is is (replicate n 0) []
 standing_begin n is rising = record {
@@ -70,6 +73,8 @@ standing_begin n is rising = record {
   past = λ q h. omega arith;
   machines = λ v. sym (get_or_past {X = ℕ} [] v 0 (omega arith));
   below = λ k d l. absurd (omega arith);
+  early = λ k d l. absurd (omega arith);
+  apart = λ i j d a b. absurd (omega arith);
 }
 
 -- an interval that starts at or before a point contains it where it doesn't end before
@@ -154,6 +159,38 @@ past_next n i js ends r now q held early small free upto counted past =
           omega (arith, one, few, more, grown, most, long, at_most)
     ]
 
+-- where a register isn't taken, each interval that has it doesn't contain the point
+none_taken : (done : List Placed) (point r k : ℕ) (d : Placed) → is_taken done point r ≡ false → k < length done →
+    ((get_or done k d).machine == r && contains (get_or done k d).interval point) ≡ false
+none_taken [] point r k d e h = absurd (omega arith)
+none_taken (x ∷ xs) point r zero d e h = (or_parts (x.machine == r && contains x.interval point) (is_taken xs point r) e).0
+none_taken (x ∷ xs) point r (suc k) d e h = none_taken xs point r k d (or_parts (x.machine == r && contains x.interval point) (is_taken xs point r) e).1 (omega arith)
+
+-- an interval that ended before another starts shares no point with it
+ended_before : (a b : Interval) (ra rb point : ℕ) → b.start < a.start → (rb == ra && contains b a.start) ≡ false → contains a point ≡ true → contains b point ≡ true → ra ≡ rb → ⊥
+ended_before a b ra rb point early free here there e =
+    let one : contains b a.start ≡ nat_le a.start b.finish = contains_from b a.start (omega arith) in
+    let same : (rb == ra) ≡ true = eq-eqb rb ra (sym e) in
+    let out = rw (same, one) at free in
+    let past = leb-false a.start b.finish out in
+    let a_starts = leb-true a.start point (and_parts (nat_le a.start point) (nat_le point a.finish) here).0 in
+    let b_ends = leb-true point b.finish (and_parts (nat_le b.start point) (nat_le point b.finish) there).1 in
+    omega (arith, past, a_starts, b_ends)
+
+early_next : (i : Interval) (r : ℕ) (done : List Placed) (now after : ℕ) → now ≤ after → i.start < after → ((k : ℕ) (d : Placed) → k < length done → (get_or done k d).interval.start < now) →
+    (k : ℕ) (d : Placed) → k < length (record { interval = i; machine = r } ∷ done) → (get_or (record { interval = i; machine = r } ∷ done) k d).interval.start < after
+early_next i r done now after le l early zero d h = l
+early_next i r done now after le l early (suc k) d h = let before = early k d (omega arith) in omega (arith, before)
+
+apart_next : (i : Interval) (r : ℕ) (done : List Placed) (now : ℕ) → now ≤ i.start → is_taken done i.start r ≡ false →
+    ((k : ℕ) (d : Placed) → k < length done → (get_or done k d).interval.start < now) → AreApart done → AreApart (record { interval = i; machine = r } ∷ done)
+apart_next i r done now le free early apart zero zero d a b = absurd (omega arith)
+apart_next i r done now le free early apart zero (suc k) d a b =
+    let before = early k d (omega arith) in
+    λ point here there e. ended_before i (get_or done k d).interval r (get_or done k d).machine point (omega (arith, before)) (none_taken done i.start r k d free (omega arith)) here there e
+apart_next i r done now le free early apart (suc j) zero d a b = absurd (omega arith)
+apart_next i r done now le free early apart (suc j) (suc k) d a b = apart j k d (omega arith) (omega arith)
+
 pub standing_step : (n : ℕ) (all : List Interval) (i : Interval) (left : List Interval) (ends regs : List ℕ) (r : ℕ) → Standing n all (i ∷ left) ends regs →
     i.register ≡ length regs → r < length ends → get_or ends r 0 < i.start → ((k : ℕ) → k < r → i.start ≤ get_or ends k 0) →
     Standing n all left (set ends r i.finish) (regs ++ r ∷ [])
@@ -176,6 +213,8 @@ standing_step n all i left ends regs r st number small free busy =
       past = λ q h. past_next n i (map (λ (d : Placed). d.interval) st.done) ends r st.now q held early small free (omega arith) (st.counted q) (st.past q);
       machines = λ v. rw (number, st.machines v) (machine_next regs r v);
       below = All-push (λ r. r < n) regs r st.below (omega arith);
+      early = early_next i r st.done st.now (i.start + 1) (omega arith) (omega arith) st.early;
+      apart = apart_next i r st.done st.now early open_r st.early st.apart;
     }
 
 -- at the end

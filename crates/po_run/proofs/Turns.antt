@@ -1,5 +1,5 @@
 -- A turn of the loop that places spans.
-use Rattle.std.proofs.Common.{◌≡◌, ℕ, ◌+◌, ◌<◌, ◌≤◌, List, [], ◌∷◌, ◌++◌, length, get_or, set, drop, refl, sym, ap, ◌∙◌, subst, suc, arith, add-one, drop-cons, length-append}
+use Rattle.std.proofs.Common.{◌≡◌, ℕ, ◌+◌, ◌<◌, ◌≤◌, List, [], ◌∷◌, ◌++◌, length, get_or, set, drop, refl, sym, subst, add-one, drop-cons}
 use Rattle.std.specs.List.{slice_index, All}
 use Rattle.po_run.specs.Placement.{Interval, IsCrowded, IsUncrowded, place_from, machine_of}
 use Rattle.po_run.specs.Spans.{numbered}

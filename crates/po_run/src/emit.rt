@@ -136,6 +136,3 @@ pub fn push_unit(
     }
     Ok(())
 }
-
-#[cfg(test)]
-mod tests;

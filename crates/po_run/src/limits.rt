@@ -1,9 +1,9 @@
 //! What a description and a unit must keep beside the form of their lines: sizes, different names, the stack's rules.
 
-ghost use Rattle.std.specs.Prelude.{◌≡◌, ◌∷◌, ◌++◌, map, IfOk, length, OnOk};
+ghost use Rattle.std.specs.Prelude.{◌≡◌, ◌∷◌, ◌++◌, map, IfOk, length, nat_le, OnOk};
 ghost use Rattle.std.specs.List.{list_all, list_any};
 ghost use Rattle.po_run.specs.Input.{is_body as is_body_of};
-ghost use Rattle.po_run.specs.Reading.{now_of, same, are_apart as are_apart_names, depth_after as depth_behind, is_sized as is_sized_machine, are_short as are_short_lines, is_ret};
+ghost use Rattle.po_run.specs.Reading.{now_of, same, are_apart as are_apart_names, depth_after as depth_behind, is_sized as is_sized_machine, is_ret};
 
 use crate::lines::is_same;
 use crate::model::{Machine, Op};
@@ -12,7 +12,7 @@ use std::alloc::{AllocError, Global};
 
 /// Whether no line is longer than 4,096 bytes.
 pub fn are_short(lines: &[&[u8]]) -> bool
-    ensures { result ≡ are_short_lines (map now_of lines.now) }
+    ensures { result ≡ list_all (λ line. nat_le (length line.now) 4096) lines.now }
 {
     lines.iter().all(|line| line.len() <= 4096)
 }
@@ -49,11 +49,12 @@ fn push_names<'a>(names: &mut Vec<&'a [u8]>, more: &'a [Items<u8>]) -> Result<()
 }
 
 fn is_among(name: &[u8], names: &[&[u8]]) -> bool
-    ensures { result ≡ list_any (same name.now) (map now_of names.now) }
+    ensures { result ≡ list_any (λ other. same name.now other.now) names.now }
 {
     names.iter().any(|other| is_same(name, other))
 }
 
+#[tactic(auto, using(crate::proofs::Reading::list_any_seen))]
 fn are_apart(names: &[&[u8]]) -> bool
     ensures { result ≡ are_apart_names (map now_of names.now) }
 {
@@ -78,27 +79,9 @@ fn depth_after(depth: usize, op: Op) -> Option<usize>
     ensures { result ≡ depth_behind depth op }
 {
     match op {
-        Op::Con(_) | Op::Adl(_) => {
-            if depth < 64 {
-                Some(depth + 1)
-            } else {
-                None
-            }
-        }
-        Op::Lod => {
-            if depth >= 1 {
-                Some(depth)
-            } else {
-                None
-            }
-        }
-        Op::Add => {
-            if depth >= 2 {
-                Some(depth - 1)
-            } else {
-                None
-            }
-        }
+        Op::Con(_) | Op::Adl(_) => { if depth < 64 { Some(depth + 1) } else { None } }
+        Op::Lod => { if depth >= 1 { Some(depth) } else { None } }
+        Op::Add => { if depth >= 2 { Some(depth - 1) } else { None } }
         Op::Ret => None,
     }
 }

@@ -8,9 +8,10 @@ ghost use Rattle.std.specs.List.{list_all};
 ghost use Rattle.std.specs.Option.{option_copied};
 ghost use Rattle.std.specs.Fmt.{signed_decimal};
 ghost use Rattle.po_run.specs.Input.{is_name as is_name_text, is_name_byte, begins_name};
-ghost use Rattle.po_run.specs.Reading.{Gives, now_of, pieces_of, after_word, same, name_in, names_in, number_in};
+ghost use Rattle.po_run.specs.Reading.{Gives, now_of, pieces_of, after_word, same, name_in, as_names, names_in, number_in};
 
 use crate::read_error::ReadError;
+use itoa::Buffer;
 use sqlite_items::Items;
 use std::alloc::{AllocError, Global};
 
@@ -88,9 +89,26 @@ fn copies(alloc: Global, pieces: &[&[u8]]) -> Result<Items<Items<u8>>, AllocErro
 }
 
 fn are_names(pieces: &[&[u8]]) -> bool
-    ensures { result ≡ list_all is_name_text (map now_of pieces.now) }
+    ensures { result ≡ list_all (λ piece. is_name_text piece.now) pieces.now }
 {
     pieces.iter().all(|piece| is_name(piece))
+}
+
+/// The names between spaces, of which one stands before the first.
+#[tactic(auto, using(crate::proofs::Reading::list_all_seen))]
+fn spaced_names(alloc: Global, pieces: &[&[u8]]) -> Result<Items<Items<u8>>, ReadError>
+    ensures { Gives (λ ns. ns) result (as_names (map now_of pieces.now)) }
+{
+    let [first, names @ ..] = pieces else {
+        return Err(ReadError::Outside);
+    };
+    if first.len() != 0 {
+        return Err(ReadError::Outside);
+    }
+    if !are_names(names) {
+        return Err(ReadError::Outside);
+    }
+    Ok(copies(alloc, names)?)
 }
 
 /// The names behind a word, each with a space before it.
@@ -102,16 +120,7 @@ pub fn names(alloc: Global, line: &[u8], word: &[u8]) -> Result<Items<Items<u8>>
         return Err(ReadError::Outside);
     };
     let pieces = pieces(alloc, rest, b' ')?;
-    match pieces.as_slice() {
-        [] => Err(ReadError::Outside),
-        [first, names @ ..] => {
-            if first.len() == 0 && are_names(names) {
-                Ok(copies(alloc, names)?)
-            } else {
-                Err(ReadError::Outside)
-            }
-        }
-    }
+    spaced_names(alloc, &pieces)
 }
 
 fn is_same_text(a: &str, b: &str) -> bool
@@ -121,29 +130,29 @@ fn is_same_text(a: &str, b: &str) -> bool
 }
 
 /// The number from -2^31 to 2^31 - 1 that these bytes are the printed form of.
-fn signed_number(alloc: Global, bytes: &[u8]) -> Result<Option<i32>, AllocError>
-    ensures found { IfOk result (λ found. IfSome found (λ n. bytes.now ≡ signed_decimal n)) }
-    ensures none { IfOk result (λ found. IfNone found ((n : ℤ) → FitsSigned w32 n → bytes.now ≡ signed_decimal n → ⊥)) }
+fn signed_number(bytes: &[u8]) -> Option<i32>
+    ensures found { IfSome result (λ n. bytes.now ≡ signed_decimal n) }
+    ensures none { IfNone result ((n : ℤ) → FitsSigned w32 n → bytes.now ≡ signed_decimal n → ⊥) }
 {
     let Ok(text) = str::from_utf8(bytes) else {
-        return Ok(None);
+        return None;
     };
     let Ok(n) = text.parse::<i32>() else {
-        return Ok(None);
+        return None;
     };
-    let printed = n.to_string(alloc)?;
-    if is_same_text(printed.as_str(), text) {
-        Ok(Some(n))
+    let mut buffer = Buffer::new();
+    if is_same_text(buffer.format(n), text) {
+        Some(n)
     } else {
-        Ok(None)
+        None
     }
 }
 
 /// The word whose signed view these bytes are the printed form of.
-pub fn number(alloc: Global, bytes: &[u8]) -> Result<u32, ReadError>
+pub fn number(bytes: &[u8]) -> Result<u32, ReadError>
     ensures { Gives (λ n. n) result (number_in bytes.now) }
 {
-    match signed_number(alloc, bytes)? {
+    match signed_number(bytes) {
         Some(n) => Ok(n.cast_unsigned()),
         None => Err(ReadError::Outside),
     }

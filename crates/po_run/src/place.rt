@@ -178,6 +178,3 @@ fn lowest_free(ends: &[u32], point: u32) -> Option<usize>
 {
     ends.iter().position(|end| *end < point)
 }
-
-#[cfg(test)]
-mod tests;

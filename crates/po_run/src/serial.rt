@@ -31,12 +31,7 @@ fn is_naive(words: &[String]) -> bool
 }
 
 /// All but what is told on the notes.
-fn run<S: Source, K: Sink>(
-    alloc: Global,
-    words: &[String],
-    source: &mut S,
-    sink: &mut K,
-) -> Status
+fn run<S: Source, K: Sink>(alloc: Global, words: &[String], source: &mut S, sink: &mut K) -> Status
     ensures done { OnDone result (S.left source.old) (S.left source.new) (K.kept sink.old) (K.kept sink.new) }
     ensures usage { (result ≡ Status.Usage) ↔ (IsNaive words.now → ⊥) }
     ensures unread { OnUsage result (S.left source.old) (S.left source.new) }

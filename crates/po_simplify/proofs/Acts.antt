@@ -6,13 +6,13 @@ use Rattle.po_word.specs.Words.{rel_value}
 use Rattle.po_term.specs.declared.term.Reg.{Reg as Register}
 use Rattle.po_term.specs.declared.term.Sym.{Sym}
 use Rattle.po_term.specs.declared.term.Label.{Label}
-use Rattle.po_term.specs.Tree.{Tree, Const, Leaf, Read, Unary, Binary}
+use Rattle.po_term.specs.Tree.{Tree, Const}
 use Rattle.po_term.specs.Terms.{Place, State, IsState, value}
-use Rattle.po_term.specs.Moves.{Ending, GoTo, IfCc, IfTwo, CallOf, Return, Move, SetTo, CcTo, StoreTo, Ends}
+use Rattle.po_term.specs.Moves.{GoTo, IfCc, IfTwo, CallOf, Return, Move, SetTo, CcTo, StoreTo, Ends}
 use Rattle.po_term.specs.Kinds.{words, give}
 use Rattle.po_term.specs.Simplified.{same_register, simple, decided, simple_move, simple_moves}
-use Rattle.po_term.specs.Worth.{HasWords, IsWorth}
-use Rattle.po_term.specs.Actions.{Action, Sets, Compares, Stores, Jumps, action, actions, MoveHasWords, MovesHaveWords, DoesAs}
+use Rattle.po_term.specs.Worth.{HasWords}
+use Rattle.po_term.specs.Actions.{Action, Sets, Jumps, action, actions, MoveHasWords, MovesHaveWords, DoesAs}
 use Rattle.po_simplify.proofs.Worths.{simple_worth}
 
 abbrev Step : Type 0

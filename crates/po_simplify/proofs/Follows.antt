@@ -2,16 +2,16 @@
 -- other, and the questions that were met are answered alike, the reading over the other meets the same questions and gives the same.
 -- With f = putting words into expressions, it says that this commutes with simplifying; with f = the identity, that words
 -- which answer alike have one path and one result.
-use Rattle.std.proofs.Common.{◌≡◌, ℕ, Bool, true, false, List, [], ◌∷◌, ◌++◌, map, refl, sym, ◌∙◌, ap, subst}
+use Rattle.std.proofs.Common.{◌≡◌, ℕ, Bool, true, false, List, [], ◌∷◌, ◌++◌, map, refl, ap, subst}
 use Rattle.std.specs.Prelude.{if◌then◌else◌}
 use Rattle.po_word.specs.declared.operator.Un.{Un}
 use Rattle.po_word.specs.declared.operator.Un.TheVariants.{Neg, Not}
 use Rattle.po_word.specs.declared.operator.Bin.{Bin}
 use Rattle.po_word.specs.declared.operator.Bin.TheVariants.{Add, Sub, Mul, And, Or, Xor, Shl, Sar, Shr}
 use Rattle.po_term.specs.Tree.{tree_map, Tree, Const, Leaf, Read, Unary, Binary}
-use Rattle.po_word.specs.Exprs.{Ask, Zero, One, Ones, Pow2, Related, ask_map}
+use Rattle.po_word.specs.Exprs.{Ask, Zero, One, Ones, Pow2, ask_map}
 use Rattle.po_term.specs.Kinds.{Kind, Met, give, and_then, ask}
-use Rattle.po_term.specs.Simplified.{make_neg, make_not, plain, plus_const, minus_from, make_minus, make_plus, times_const, and_const, or_const, xor_const, make_swapped, make_shift, unary_of, binary_of, simple, decided, simple_move, simple_moves}
+use Rattle.po_term.specs.Simplified.{make_neg, make_not, plain, plus_const, minus_from, make_minus, make_plus, times_const, and_const, or_const, xor_const, make_swapped, make_shift, unary_of, binary_of, simple}
 
 -- f takes the folds of the one kind to those of the other
 pub record Carries {J K : Type 0} (j : Kind J) (k : Kind K) (f : J → K) : Type 0 where

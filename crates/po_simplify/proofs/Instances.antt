@@ -2,7 +2,7 @@
 use Rattle.std.proofs.Common.{◌≡◌, ℕ, Bool, List, [], ◌∷◌, map, refl, sym, ◌∙◌, ap}
 use Rattle.po_word.specs.Exprs.{Expr, Ask, Zero, One, Ones, Pow2, Within, Same, Related, ask_map, expr_value}
 use Rattle.po_term.specs.Tree.{Tree, Const, Leaf, Read, Unary, Binary, tree_map}
-use Rattle.po_term.specs.Kinds.{Kind, Met, words, exprs}
+use Rattle.po_term.specs.Kinds.{Met, words, exprs}
 use Rattle.po_term.specs.Simplified.{simple}
 use Rattle.po_simplify.proofs.Follows.{Carries, Alike, met_map, simple-follows}
 

@@ -1,12 +1,12 @@
 -- An instruction simplified over one kind of constants follows one simplified over another.
-use Rattle.std.proofs.Common.{◌≡◌, ℕ, Bool, true, false, List, [], ◌∷◌, ◌++◌, map, refl, sym, ◌∙◌, ap}
+use Rattle.std.proofs.Common.{◌≡◌, Bool, List, [], ◌∷◌, ◌++◌, map, refl, sym, ap}
 use Rattle.po_word.specs.declared.operator.Rel.{Rel}
-use Rattle.po_word.specs.Exprs.{Ask, Related}
+use Rattle.po_word.specs.Exprs.{Related}
 use Rattle.po_term.specs.declared.term.Label.{Label}
-use Rattle.po_term.specs.Tree.{tree_map, Tree, Const, Leaf, Read, Unary, Binary}
-use Rattle.po_term.specs.Moves.{Ending, GoTo, IfCc, IfTwo, CallOf, Return, Move, SetTo, CcTo, StoreTo, Ends}
+use Rattle.po_term.specs.Tree.{tree_map, Tree, Const}
+use Rattle.po_term.specs.Moves.{GoTo, IfTwo, Move, SetTo, CcTo, StoreTo, Ends}
 use Rattle.po_term.specs.MoveMap.{move_map}
-use Rattle.po_term.specs.Kinds.{Kind, Met, give, and_then, ask}
+use Rattle.po_term.specs.Kinds.{Kind, Met, give, and_then}
 use Rattle.po_term.specs.Simplified.{simple, decided, simple_move, simple_moves}
 use Rattle.po_simplify.proofs.Follows.{Carries, Follows, ask-follows, and_then-follows, simple-follows, map-append}
 

@@ -1,9 +1,9 @@
 -- The rows for a + b are those in stages.
-use Rattle.std.proofs.Common.{◌≡◌, ℕ, Bool, refl}
+use Rattle.std.proofs.Common.{◌≡◌, Bool, refl}
 use Rattle.po_word.specs.declared.operator.Un.TheVariants.{Neg}
 use Rattle.po_word.specs.declared.operator.Bin.TheVariants.{Add}
-use Rattle.po_term.specs.Tree.{Tree, Const, Leaf, Read, Unary, Binary}
-use Rattle.po_term.specs.Kinds.{Kind, Met}
+use Rattle.po_term.specs.Tree.{Tree, Const, Unary, Binary}
+use Rattle.po_term.specs.Kinds.{Kind}
 use Rattle.po_term.specs.Simplified.{make_plus}
 use Rattle.po_simplify.specs.Staged.{plus_staged}
 

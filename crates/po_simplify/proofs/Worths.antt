@@ -1,5 +1,5 @@
 -- Simplifying keeps values: the word of what a constructor makes is the operator's of the operands' words, in every state.
-use Rattle.std.proofs.Common.{◌≡◌, ℕ, zero, suc, ◌+◌, ◌-◌, ◌%◌, ◌^◌, ◌<◌, Bool, true, false, refl, sym, ◌∙◌, ap, arith, subst, lit<}
+use Rattle.std.proofs.Common.{◌≡◌, ℕ, ◌-◌, ◌^◌, ◌<◌, Bool, true, false, refl, sym, ◌∙◌, ap, arith, lit<}
 use Rattle.std.specs.Prelude.{◌==◌, if◌then◌else◌}
 use Rattle.std.proofs.lemmas.Bool.{eqb-true}
 use Rattle.po_word.specs.declared.operator.Un.TheVariants.{Neg, Not}
@@ -7,9 +7,9 @@ use Rattle.po_word.specs.declared.operator.Bin.TheVariants.{Add, Sub, Mul, And, 
 use Rattle.po_word.specs.Words.{un_value, bin_value}
 use Rattle.po_term.specs.declared.term.Reg.{Reg as Register}
 use Rattle.po_term.specs.declared.term.Reg.TheVariants.{Virt, Fp, Rv, Arg}
-use Rattle.po_term.specs.Tree.{Tree, Const, Leaf, Read, Unary, Binary, EachConst}
-use Rattle.po_term.specs.Terms.{Place, InReg, AtSym, State, IsState, stored, value}
-use Rattle.po_term.specs.Kinds.{words, Met, give, and_then, ask}
+use Rattle.po_term.specs.Tree.{Tree, Const, Leaf, Read, Unary, Binary}
+use Rattle.po_term.specs.Terms.{Place, InReg, State, IsState, stored, value}
+use Rattle.po_term.specs.Kinds.{words, Met, give, ask}
 use Rattle.po_term.specs.Simplified.{reg_eq, same_register, make_neg, make_not, plain, plus_const, minus_from, make_minus, make_plus, times_plain, and_plain, times_const, and_const, or_const, xor_const, make_swapped, make_shift, unary_of, binary_of, simple}
 use Rattle.po_term.specs.Worth.{HasWords, IsWorth}
 use Rattle.po_simplify.proofs.Folds.{un_fits, bin_fits, add_twice, neg_twice, not_twice, add_neg, sub_same, add_across, add_comm, add_left, add_right, add_zero, mul_twice, one_bit, shift_by_bit, or_assoc, shl_zero, sar_zero, shr_zero}

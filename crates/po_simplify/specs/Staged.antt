@@ -1,10 +1,9 @@
 -- The rows for a + b in stages, one operand at a time, and the row for a constant on the right of an operator that commutes.
-use Rattle.std.specs.Prelude.{ℕ, Bool}
-use Rattle.po_word.specs.declared.operator.Un.{Un}
+use Rattle.std.specs.Prelude.{Bool}
 use Rattle.po_word.specs.declared.operator.Un.TheVariants.{Neg}
 use Rattle.po_word.specs.declared.operator.Bin.{Bin}
 use Rattle.po_word.specs.declared.operator.Bin.TheVariants.{Add, Mul, And, Or, Xor}
-use Rattle.po_term.specs.Tree.{Tree, Const, Leaf, Read, Unary, Binary}
+use Rattle.po_term.specs.Tree.{Tree, Const, Unary, Binary}
 use Rattle.po_term.specs.Kinds.{Kind, Met, give, and_then}
 use Rattle.po_term.specs.Simplified.{plain, plus_const, make_minus, times_const, and_const, or_const, xor_const}
 

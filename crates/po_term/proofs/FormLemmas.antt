@@ -46,8 +46,8 @@ size_below (Binary o x y) =
     (lt_of_lt_of_le (size_below x) (pow_mono (omega arith)))
     (lt_of_lt_of_le (size_below y) (pow_mono (omega arith)))
 
-pub size_of_shallow : {K L : Type 0} (t : Tree K L) → tree_depth t ≤ 16 → tree_size t < 2 ^ 64
-size_of_shallow t h = lt_of_lt_of_le (size_below t) (pow_mono (let k : tree_depth t ≤ 64 = omega arith in k))
+pub size_of_shallow : {K L : Type 0} (t : Tree K L) → tree_depth t ≤ 64 → tree_size t < 2 ^ 64
+size_of_shallow t h = lt_of_lt_of_le (size_below t) (pow_mono h)
 
 -- a set goes before each move that doesn't set the same register
 pub set_before : (r : Register) (t : Tree ℕ Place) (n : PlainMove) (b : Bool) → (IsTrue b ↔ Sets r n) → (IsTrue (not b) ↔ GoesBefore (SetTo r t) n)

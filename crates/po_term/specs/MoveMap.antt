@@ -1,5 +1,5 @@
 -- Transfers with their parts replaced.
-use Rattle.po_term.specs.Tree.{Tree, tree_map}
+use Rattle.po_term.specs.Tree.{tree_map}
 use Rattle.po_term.specs.Moves.{Ending, GoTo, IfCc, IfTwo, CallOf, Return, Move, SetTo, CcTo, StoreTo, Ends}
 
 module _ {J K L M R Q S T : Type 0} (f : J → K) (g : L → M) (onto_register : R → Q) (onto_symbol : S → T) where

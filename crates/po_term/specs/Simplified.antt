@@ -4,19 +4,19 @@
 -- in docs/OPTIMISER.md ("The simplifier"), and the first that applies is taken. a, b, t, u are terms, c, d are constants;
 -- `k.un`, `k.bin` fold constants, and `ask k (Zero c) yes no` is the question whether c is 0.
 -- At `words` this is the simplifier. At another kind of constants it is the same table read over them.
-use Rattle.std.specs.Prelude.{ℕ, Bool, true, false, ◌==◌, if◌then◌else◌, List, [], ◌∷◌, ◌++◌}
+use Rattle.std.specs.Prelude.{Bool, true, false, ◌==◌, if◌then◌else◌, List, [], ◌∷◌, ◌++◌}
 use Rattle.po_word.specs.declared.operator.Un.{Un}
 use Rattle.po_word.specs.declared.operator.Un.TheVariants.{Neg, Not}
 use Rattle.po_word.specs.declared.operator.Bin.{Bin}
 use Rattle.po_word.specs.declared.operator.Bin.TheVariants.{Add, Sub, Mul, And, Or, Xor, Shl, Sar, Shr}
 use Rattle.po_word.specs.declared.operator.Rel.{Rel}
-use Rattle.po_word.specs.Exprs.{Ask, Zero, One, Ones, Pow2, Related}
+use Rattle.po_word.specs.Exprs.{Zero, One, Ones, Pow2, Related}
 use Rattle.po_term.specs.declared.term.Reg.{Reg as Register}
 use Rattle.po_term.specs.declared.term.Reg.TheVariants.{Virt, Fp, Rv, Arg}
 use Rattle.po_term.specs.declared.term.Label.{Label}
 use Rattle.po_term.specs.Tree.{Tree, Const, Leaf, Read, Unary, Binary}
-use Rattle.po_term.specs.Terms.{Place, InReg, AtSym}
-use Rattle.po_term.specs.Moves.{Ending, GoTo, IfCc, IfTwo, CallOf, Return, Move, SetTo, CcTo, StoreTo, Ends}
+use Rattle.po_term.specs.Terms.{Place, InReg}
+use Rattle.po_term.specs.Moves.{GoTo, IfTwo, Move, SetTo, CcTo, StoreTo, Ends}
 use Rattle.po_term.specs.Kinds.{Kind, Met, give, and_then, ask}
 
 -- both are one register

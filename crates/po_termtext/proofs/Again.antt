@@ -1,17 +1,15 @@
 -- A printed term is read as it, whatever follows that ends its last word.
-use Rattle.std.proofs.Common.{◌≡◌, ◌≢◌, ℕ, ◌+◌, ◌≤◌, ◌<◌, List, [], ◌∷◌, ◌++◌, Bool, true, false, Option, Some, None, refl, sym, ap, ◌∙◌, subst, arith, length, get_or, suc, zero}
+use Rattle.std.proofs.Common.{◌≡◌, ◌≢◌, ℕ, ◌+◌, ◌≤◌, List, [], ◌∷◌, ◌++◌, true, false, Option, Some, refl, ap, ◌∙◌, arith, suc, zero}
 use Rattle.std.specs.Prelude.{codes, ◌==◌}
-use Rattle.std.specs.List.{list_all}
 use Rattle.std.specs.Option.{option_map}
 use Rattle.std.proofs.lemmas.Bool.Decides.{nat_tests}
-use Rattle.po_word.specs.declared.operator.Un.{Un}
 use Rattle.po_word.specs.declared.operator.Un.TheVariants.{Neg, Not}
 use Rattle.po_word.specs.declared.operator.Bin.{Bin}
 use Rattle.po_term.specs.Tree.{Tree, Const, Leaf, Read, Unary, Binary, tree_depth}
 use Rattle.po_term.specs.Terms.{Place}
 use Rattle.po_termtext.specs.TermText.{term_text, bin_text}
 use Rattle.po_termtext.specs.Form.{HasNumbers}
-use Rattle.po_termtext.specs.Reading.{◌>>=◌, Seen, behind, in_word, word_of, rest_of, leaf_in, leaf_seen, operator_in, operator_seen, closed, by_front, term_by, term_in}
+use Rattle.po_termtext.specs.Reading.{◌>>=◌, Seen, behind, word_of, rest_of, leaf_in, leaf_seen, operator_in, operator_seen, closed, term_by, term_in}
 use Rattle.po_termtext.proofs.Words.{ends, word_again, rest_again}
 use Rattle.po_termtext.proofs.Leaves.{ReadsAgain, IsFront, const_reads, place_reads, operator_again, operator_in_word}
 use Rattle.po_termtext.proofs.Found.{read_text, neg_text, not_text, binary_text}

@@ -1,8 +1,6 @@
 -- A term of no depth, and one step of reading.
-use Rattle.std.proofs.Common.{◌≡◌, ℕ, ◌-◌, ◌<◌, List, Option, Some, None, refl, suc, zero, sub-one, arith, ap}
-use Rattle.po_term.specs.Tree.{Tree}
-use Rattle.po_term.specs.Terms.{Place}
-use Rattle.po_termtext.specs.Reading.{Seen, term_by, term_in}
+use Rattle.std.proofs.Common.{◌≡◌, ℕ, ◌-◌, ◌<◌, List, None, refl, suc, zero, arith}
+use Rattle.po_termtext.specs.Reading.{term_by, term_in}
 
 pub term_in_none : (depth : ℕ) (s : List ℕ) → depth ≡ 0 → term_in depth s ≡ None
 unfolding term_in

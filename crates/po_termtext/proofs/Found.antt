@@ -1,14 +1,13 @@
 -- What is read is the front of the text.
-use Rattle.std.proofs.Common.{◌≡◌, ℕ, ◌+◌, ◌≤◌, List, [], ◌∷◌, ◌++◌, Option, Some, None, refl, sym, ap, ◌∙◌, subst, arith, suc, zero, append_assoc}
+use Rattle.std.proofs.Common.{◌≡◌, ℕ, ◌≤◌, List, ◌∷◌, ◌++◌, Option, Some, None, refl, sym, ap, ◌∙◌, subst, arith, suc, zero, append_assoc}
 use Rattle.std.specs.Prelude.{codes}
-use Rattle.po_word.specs.declared.operator.Un.{Un}
 use Rattle.po_word.specs.declared.operator.Un.TheVariants.{Neg, Not}
 use Rattle.po_word.specs.declared.operator.Bin.{Bin}
-use Rattle.po_term.specs.Tree.{Tree, Const, Leaf, Read, Unary, Binary, tree_depth}
+use Rattle.po_term.specs.Tree.{Tree, Read, Unary, Binary, tree_depth}
 use Rattle.po_term.specs.Terms.{Place}
-use Rattle.po_termtext.specs.TermText.{term_text, bin_text, un_text}
+use Rattle.po_termtext.specs.TermText.{term_text, bin_text}
 use Rattle.po_termtext.specs.Form.{HasNumbers}
-use Rattle.po_termtext.specs.Reading.{◌>>=◌, Seen, behind, word_of, rest_of, leaf_in, leaf_seen, operator_in, operator_seen, closed, by_front, term_by, term_in}
+use Rattle.po_termtext.specs.Reading.{Seen, behind, word_of, rest_of, leaf_in, leaf_seen, operator_in, operator_seen, closed, by_front, term_in}
 use Rattle.po_termtext.proofs.Options.{mapped, bound}
 use Rattle.po_termtext.proofs.Words.{behind_found, word_and_rest}
 use Rattle.po_termtext.proofs.Leaves.{leaf_found, operator_found}

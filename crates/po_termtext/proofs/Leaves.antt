@@ -1,7 +1,6 @@
 -- Words that are whole terms, and operators: what is read prints the word, and the printed word is read.
-use Rattle.std.proofs.Common.{◌≡◌, ◌≢◌, ℕ, ◌+◌, ◌-◌, ◌≤◌, ◌<◌, ◌^◌, List, [], ◌∷◌, ◌++◌, Bool, true, false, cond, Option, Some, None, refl, sym, ap, ◌∙◌, subst, arith, rules, length, get_or, suc, zero, ◌⊎◌, inl, inr}
-use Rattle.std.specs.Prelude.{◌&&◌, ◌||◌, ◌==◌, not, nat_le, codes, ⊤}
-use Rattle.std.specs.Bool.{Decides}
+use Rattle.std.proofs.Common.{◌≡◌, ◌≢◌, ℕ, ◌+◌, ◌-◌, ◌≤◌, ◌<◌, ◌^◌, List, [], ◌∷◌, ◌++◌, true, false, cond, Option, Some, None, refl, sym, ap, ◌∙◌, subst, arith, length, get_or, suc, zero, ◌⊎◌, inl, inr}
+use Rattle.std.specs.Prelude.{◌==◌, codes}
 use Rattle.std.specs.List.{list_all}
 use Rattle.std.specs.Option.{option_map}
 use Rattle.std.specs.Fmt.{decimal}
@@ -12,12 +11,11 @@ use Rattle.po_word.specs.declared.operator.Bin.{Bin}
 use Rattle.po_word.specs.declared.operator.Bin.TheVariants.{Add, Sub, Mul, And, Or, Xor, Shl, Sar, Shr}
 use Rattle.po_term.specs.declared.term.Reg.{Reg}
 use Rattle.po_term.specs.declared.term.Reg.TheVariants.{Virt, Fp, Rv, Arg}
-use Rattle.po_term.specs.declared.term.Sym.{Sym}
 use Rattle.po_term.specs.Tree.{Tree, Const, Leaf, tree_depth}
 use Rattle.po_term.specs.Terms.{Place, InReg, AtSym}
-use Rattle.po_termtext.specs.TermText.{const_text, reg_text, symbol_text, place_text, term_text, bin_text}
+use Rattle.po_termtext.specs.TermText.{const_text, reg_text, place_text, term_text, bin_text}
 use Rattle.po_termtext.specs.Form.{IsReg, IsPlace, HasNumbers}
-use Rattle.po_termtext.specs.Reading.{◌>>=◌, or_else, behind, same, is_digit, number_in, const_in, reg_named, virt_in, symbol_in, leaf_in, operator_in, in_word}
+use Rattle.po_termtext.specs.Reading.{behind, same, is_digit, number_in, const_in, reg_named, virt_in, symbol_in, leaf_in, operator_in, in_word}
 use Rattle.po_termtext.proofs.Options.{chosen, both, mapped, bound, either}
 use Rattle.po_termtext.proofs.Words.{behind_found}
 use Rattle.po_termtext.proofs.Numbers.{number_found, number_again, const_found, const_again, decimal_digits, decimal_some, head_digit, low_text, high_text, halves}

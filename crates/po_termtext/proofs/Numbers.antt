@@ -1,5 +1,5 @@
 -- Numbers and constants: what a word is read as is what it prints.
-use Rattle.std.proofs.Common.{◌≡◌, ℕ, ◌+◌, ◌-◌, ◌≤◌, ◌<◌, ◌^◌, List, [], ◌∷◌, ◌++◌, Result, Ok, Err, true, false, Bool, cond, Option, Some, None, refl, sym, ap, ◌∙◌, subst, arith, rules, length, get_or, suc, zero, ◌⊎◌, inl, inr}
+use Rattle.std.proofs.Common.{◌≡◌, ℕ, ◌-◌, ◌≤◌, ◌<◌, ◌^◌, List, [], ◌∷◌, Result, Ok, Err, true, false, Bool, Option, Some, None, refl, sym, ap, ◌∙◌, subst, arith, rules, length, get_or, suc, zero, ◌⊎◌, inl, inr}
 use Rattle.std.specs.Prelude.{◌&&◌, nat_le, nat_lt, ◌==◌, not}
 use Rattle.std.specs.List.{list_all}
 use Rattle.std.specs.Str.{IsUtf8}
@@ -12,8 +12,7 @@ use Rattle.std.specs.Fmt.{decimal, signed_decimal}
 use Rattle.std.specs.Int.{w32, cast_signed}
 use Rattle.std.proofs.lemmas.Int.{ints}
 use Rattle.std.proofs.lemmas.Fmt.{digits_decimal, digits_value-decimal, decimal-digits_value, decimal_nonempty, first_decimal, decimal_digit}
-use lib.IntN.{ℤ, pos, negsuc}
-use Rattle.po_word.specs.Words.{signed}
+use lib.IntN.{pos}
 use Rattle.po_termtext.specs.TermText.{const_text}
 use Rattle.po_termtext.specs.Reading.{◌>>=◌, is_digit, begins_well, number_in, const_in, positive_in, negative_in}
 use Rattle.po_termtext.proofs.Options.{both, chosen, bound}

@@ -1,5 +1,5 @@
 -- Sizes of trees.
-use Rattle.std.proofs.Common.{ℕ, ◌<◌, ◌+◌, arith}
+use Rattle.std.proofs.Common.{◌<◌, arith}
 use Rattle.po_term.specs.Tree.{Tree, Const, Leaf, Read, Unary, Binary, tree_size}
 
 pub some_node : {K L : Type 0} (t : Tree K L) → 0 < tree_size t

@@ -1,5 +1,5 @@
 -- A whole text: reading is the inverse of printing.
-use Rattle.std.proofs.Common.{◌≡◌, ◌≢◌, ℕ, ◌+◌, ◌≤◌, List, [], ◌∷◌, ◌++◌, Bool, true, false, Option, Some, None, refl, sym, ap, ◌∙◌, subst, arith, IfSome, IfNone, inl, inr}
+use Rattle.std.proofs.Common.{◌≡◌, ◌≢◌, ℕ, ◌+◌, ◌≤◌, List, [], ◌∷◌, ◌++◌, true, Option, Some, None, refl, sym, ap, ◌∙◌, subst, arith, IfSome, IfNone, inl, inr}
 use Rattle.std.specs.Prelude.{nat_le}
 use Rattle.std.specs.Option.{option_map}
 use Rattle.std.proofs.lemmas.Bool.Decides.{nat_tests}
@@ -10,7 +10,7 @@ use Rattle.po_termtext.specs.TermText.{term_text}
 use Rattle.po_termtext.specs.Form.{HasNumbers, IsTerm}
 use Rattle.po_termtext.specs.Reading.{◌>>=◌, Seen, term_in, whole, text_in}
 use Rattle.po_termtext.proofs.Options.{chosen, bound}
-use Rattle.po_termtext.proofs.Found.{IsRead, term_found}
+use Rattle.po_termtext.proofs.Found.{term_found}
 use Rattle.po_termtext.proofs.Again.{term_again}
 
 append_none : (xs : List ℕ) → xs ++ [] ≡ xs

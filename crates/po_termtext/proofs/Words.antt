@@ -1,6 +1,6 @@
 -- Words and marks at the front of a text.
-use Rattle.std.proofs.Common.{◌≡◌, ◌≢◌, ℕ, ◌+◌, List, [], ◌∷◌, ◌++◌, Bool, true, false, cond, Option, Some, None, MatchOption, refl, sym, ap, ◌∙◌, subst, length, take, drop, arith, rules, suc, zero, Bor, ◌⊎◌, inl, inr}
-use Rattle.std.specs.Prelude.{◌==◌, ◌&&◌, not}
+use Rattle.std.proofs.Common.{◌≡◌, ◌≢◌, ℕ, List, [], ◌∷◌, ◌++◌, Bool, true, false, cond, Option, Some, None, MatchOption, refl, sym, ap, ◌∙◌, subst, length, take, drop, arith, Bor, inl, inr}
+use Rattle.std.specs.Prelude.{◌==◌, not}
 use Rattle.std.specs.List.{take_while, list_all}
 use Rattle.std.specs.Option.{option_copied}
 use Rattle.std.proofs.lemmas.List.{take-append-drop}

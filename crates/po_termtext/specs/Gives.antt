@@ -1,5 +1,5 @@
 -- What a part of the reader returned, seen by a view, is what reading gives, unless memory ran out.
-use Rattle.std.specs.Prelude.{◌≡◌, Result, Ok, Err, Option, Some, None, ⊤, List, ℕ}
+use Rattle.std.specs.Prelude.{◌≡◌, Result, Ok, Err, Option, Some, None, ⊤, ℕ}
 use Rattle.po_word.specs.declared.operator.Bin.{Bin}
 use Rattle.po_term.specs.Tree.{Tree}
 use Rattle.po_term.specs.Terms.{Place, tree_of}

@@ -2,6 +2,7 @@
 use crate::{one_term_a_text, print_instr, print_term, read_term};
 use po_term::{Cond, Instr, Label, Reg, Sym, Term, Transfer};
 use po_word::{Bin, Rel};
+use std::alloc::Global;
 use std::test::Fail;
 
 /// Each is a term's text. The last two are at the limits: depth 16, and 64 nodes.
@@ -94,16 +95,26 @@ fn texts_are_read(rt: HostRuntime) -> Result<(), Fail> {
     Ok(())
 }
 
+fn printed(alloc: Global, transfer: Transfer) -> Result<Vec<u8>, Fail> {
+    let one = Instr {
+        xs: vec![in alloc; transfer]?,
+    };
+    Ok(print_instr(alloc, &one)?)
+}
+
+/// A register and a constant, added.
+fn sum(alloc: Global, register: u32, constant: u32) -> Result<Term, Fail> {
+    let left = Box::new(alloc, Term::Reg(Reg::Virt(register)))?;
+    let right = Box::new(alloc, Term::Num(constant))?;
+    Ok(Term::Bin(Bin::Add, left, right))
+}
+
 #[test]
 fn instructions_are_printed(rt: HostRuntime) -> Result<(), Fail> {
-    let v0 = Box::new(rt.alloc(), Term::Reg(Reg::Virt(0)))?;
-    let v1 = Box::new(rt.alloc(), Term::Reg(Reg::Virt(1)))?;
-    let five = Box::new(rt.alloc(), Term::Num(5))?;
-    let minus_five = Box::new(rt.alloc(), Term::Num(4294967291))?;
     let four = Instr {
         xs: vec![in rt.alloc();
-            Transfer::Set(Reg::Virt(1), Term::Bin(Bin::Add, v0, five)),
-            Transfer::Cc(Term::Bin(Bin::Add, v1, minus_five), Term::Num(0)),
+            Transfer::Set(Reg::Virt(1), sum(rt.alloc(), 0, 5)?),
+            Transfer::Cc(sum(rt.alloc(), 1, 4294967291)?, Term::Num(0)),
             Transfer::Store(Term::Reg(Reg::Fp), Term::Addr(Sym(7))),
             Transfer::If(Cond::Cc, Rel::Ltu, Label(3)),
         ]?,
@@ -113,39 +124,14 @@ fn instructions_are_printed(rt: HostRuntime) -> Result<(), Fail> {
         text.as_slice(),
         b"v1 := (v0 + 5) ; cc := (v1 + -5) ? 0 ; M[fp] := &s7 ; if cc ltu goto L3".as_slice()
     );
-    let branch = Instr {
-        xs: vec![in rt.alloc();
-            Transfer::If(
-                Cond::Two(Term::Num(1), Term::Reg(Reg::Arg(2))),
-                Rel::Ge,
-                Label(12)
-            ),
-        ]?,
-    };
-    assert_eq!(rt;
-        print_instr(rt.alloc(), &branch)?.as_slice(),
-        b"if 1 ? arg2 ge goto L12".as_slice()
-    );
-    let call = Instr {
-        xs: vec![in rt.alloc(); Transfer::Call(Sym(2), 3)]?,
-    };
-    assert_eq!(rt;
-        print_instr(rt.alloc(), &call)?.as_slice(),
-        b"call &s2 3".as_slice()
-    );
-    let jump = Instr {
-        xs: vec![in rt.alloc(); Transfer::Goto(Label(0))]?,
-    };
-    assert_eq!(rt;
-        print_instr(rt.alloc(), &jump)?.as_slice(),
-        b"goto L0".as_slice()
-    );
-    let back = Instr {
-        xs: vec![in rt.alloc(); Transfer::Ret]?,
-    };
-    assert_eq!(rt;
-        print_instr(rt.alloc(), &back)?.as_slice(),
-        b"ret".as_slice()
-    );
+    let two = Cond::Two(Term::Num(1), Term::Reg(Reg::Arg(2)));
+    let branch = printed(rt.alloc(), Transfer::If(two, Rel::Ge, Label(12)))?;
+    assert_eq!(rt; branch.as_slice(), b"if 1 ? arg2 ge goto L12".as_slice());
+    let jump = printed(rt.alloc(), Transfer::Goto(Label(0)))?;
+    assert_eq!(rt; jump.as_slice(), b"goto L0".as_slice());
+    let call = printed(rt.alloc(), Transfer::Call(Sym(2), 3))?;
+    assert_eq!(rt; call.as_slice(), b"call &s2 3".as_slice());
+    let back = printed(rt.alloc(), Transfer::Ret)?;
+    assert_eq!(rt; back.as_slice(), b"ret".as_slice());
     Ok(())
 }

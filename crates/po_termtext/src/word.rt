@@ -106,6 +106,7 @@ fn constant(word: &[u8]) -> Option<u32>
     }
 }
 
+/// A register that has no number, or one of the four arguments.
 #[tactic(auto, unfolding(crate::specs::Reading::reg_named))]
 fn register(word: &[u8]) -> Option<Reg>
     ensures { result ≡ reading.reg_named word.now }
@@ -121,6 +122,7 @@ fn register(word: &[u8]) -> Option<Reg>
     }
 }
 
+/// The operator of two words that a word is the sign of.
 #[tactic(auto, unfolding(crate::specs::Reading::operator_in))]
 pub fn operator(word: &[u8]) -> Option<Bin>
     ensures { result ≡ reading.operator_in word.now }

@@ -1,5 +1,5 @@
 -- The value of digits, one digit later.
-use Rattle.std.proofs.Common.{◌≡◌, ℕ, ◌+◌, ◌-◌, ◌*◌, ◌^◌, ◌<◌, List, ◌∷◌, refl, ap, sym, ◌∙◌, drop, length, get_or, arith, add-one}
+use Rattle.std.proofs.Common.{◌≡◌, ℕ, ◌+◌, ◌-◌, ◌*◌, ◌^◌, ◌<◌, List, ◌∷◌, ap, sym, ◌∙◌, drop, length, get_or, arith, add-one}
 use Rattle.std.proofs.lemmas.List.{at_drop_more}
 use Rattle.std.proofs.lemmas.Grind.{pow_more}
 use Rattle.po_text.specs.Number.{digits_value}

@@ -1,8 +1,8 @@
 -- A word from its start to the next blank, and then the words behind it.
-use Rattle.std.proofs.Common.{◌≡◌, ℕ, zero, suc, ◌+◌, ◌-◌, ◌≤◌, ◌<◌, List, [], ◌∷◌, ◌++◌, Bool, true, false, cond, refl, ap, sym, ◌∙◌, drop, length, get_or, arith, add-one, append_assoc, append-nil}
+use Rattle.std.proofs.Common.{◌≡◌, ℕ, zero, suc, ◌+◌, ◌≤◌, ◌<◌, List, [], ◌∷◌, ◌++◌, Bool, true, false, cond, refl, ap, sym, ◌∙◌, drop, arith, add-one, append_assoc}
 use Rattle.std.specs.Prelude.{nat_lt, ◌==◌, ⊤}
 use Rattle.std.proofs.lemmas.Bool.Decides.{nat_tests}
-use Rattle.std.proofs.lemmas.List.{drop-drop, at_drop_more, at_drop_all}
+use Rattle.std.proofs.lemmas.List.{drop-drop}
 use Rattle.po_text.specs.Words.{is_blank, with_byte, words_from}
 use Rattle.po_text.specs.WordEnds.{word_between, before_blank}
 use Rattle.po_text.specs.declared.fault.Span.{Span}

@@ -1,6 +1,5 @@
 -- What a read of a source, and a read of all of it, say of the bytes to come and of the faults.
-use Rattle.std.specs.Prelude.{ℕ, ◌+◌, ◌≤◌, ◌<◌, List, [], length, take, Option, Some, None, ◌≡◌, Result, Ok, Err, IfSome}
-use Rattle.std.specs.declared.vec.Vec.{Vec}
+use Rattle.std.specs.Prelude.{ℕ, ◌≤◌, ◌<◌, List, [], length, take, Option, ◌≡◌, Result, Ok, Err, IfSome}
 use Rattle.po_text.specs.Causes.{Rose, before_known}
 use Rattle.po_text.specs.Place.{place_behind}
 use Rattle.po_text.specs.declared.source.Got.{Got}

@@ -55,11 +55,9 @@ fn source_in_memory(rt: HostRuntime) -> Result<(), Fail> {
 }
 
 /// The refusal of a whole text with this limit.
-fn refusal(alloc: Global, limit: usize) -> Result<Option<ReadRefusal>, AllocError>
-    requires { limit < 100 }
-{
+fn refusal(alloc: Global, limit: u8) -> Result<Option<ReadRefusal>, AllocError> {
     let mut source = text(alloc, &[])?;
-    Ok(read_all(alloc, &mut source, limit).err())
+    Ok(read_all(alloc, &mut source, usize::from(limit)).err())
 }
 
 #[test]

@@ -16,9 +16,9 @@ returns-in_default-parse-clause-none c n fits e =
     c.in_default-parse.not-Ok n parsed
 
 -- as that number, which is printed so
-pub returns-clause-none : goal.returns-clause-none
-returns-clause-none c n fits e =
+pub returns-else-is_same_text-clause-none : goal.returns-else-is_same_text-clause-none
+returns-else-is_same_text-clause-none c n fits e =
     let parsed : c.parse.result ≡ Ok n = printed_parses _ n c.parse.result fits (c.in-Ok.ensures.cases.0 ∙ e) c.parse.ensures.value.0 in
     let same : c.in-Ok-parse.n ≡ n = cc in
-    let text : c.as_str.result.now ≡ c.in-Ok.text.now = c.as_str.ensures.value ∙ c.in_ok-printed.ensures.ok ∙ printed_again _ n fits same ∙ sym (c.in-Ok.ensures.cases.0 ∙ e) in
-    let told = rw c.if-is_same.false at (c.is_same.ensures.1 text) in cc
+    let text : c.format.result.now ≡ c.in-Ok.text.now = c.format.ensures.text ∙ printed_again _ n fits same ∙ sym (c.in-Ok.ensures.cases.0 ∙ e) in
+    let told = rw c.if-is_same_text.false at (c.is_same_text.ensures.1 text) in cc

@@ -1,4 +1,4 @@
-use Rattle.std.proofs.Common.{◌≡◌, ◌∙◌, ◌+◌, ◌++◌, sym, ap, length, take, drop, append-nil}
+use Rattle.std.proofs.Common.{◌≡◌, ◌∙◌, ◌+◌, sym, ap, length, append-nil}
 use Rattle.po_term.specs.Moves.{instr_of}
 use Rattle.po_run.specs.Placement.{reads}
 use Rattle.po_run.specs.Spans.{marked}

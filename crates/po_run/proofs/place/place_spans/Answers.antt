@@ -1,4 +1,4 @@
-use Rattle.std.proofs.Common.{◌≡◌, ◌≤◌, ◌<◌, ◌+◌, ◌∙◌, ℕ, length, get_or, replicate, refl, arith, rules, length-append}
+use Rattle.std.proofs.Common.{◌≡◌, replicate, refl, rules, length-append}
 use Rattle.po_run.specs.Spans.{numbered}
 use Rattle.po_run.proofs.Standing.{standing_begin}
 use Rattle.po_run.proofs.Turns.{crowded_turn, placed_turn, last_turn}

@@ -1,4 +1,4 @@
-use Rattle.std.proofs.Common.{◌≡◌, ◌∙◌, ap, take, drop}
+use Rattle.std.proofs.Common.{◌∙◌, ap, take, drop}
 use Rattle.po_termtext.specs.Reading.{in_word}
 use Rattle.po_termtext.proofs.Words.{take_passed}
 use Rattle.po_termtext.proofs.word.first_word.Goals as goal

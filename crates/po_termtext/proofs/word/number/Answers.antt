@@ -1,4 +1,4 @@
-use Rattle.std.proofs.Common.{◌≡◌, ◌∙◌, sym, true, rules}
+use Rattle.std.proofs.Common.{◌≡◌, true}
 use Rattle.std.specs.List.{list_all}
 use Rattle.po_termtext.specs.Reading.{is_digit, begins_well}
 use Rattle.po_termtext.proofs.Numbers.{digits_utf8, unparsed}
