@@ -1,0 +1,6 @@
+pub mod Faults
+pub mod Lines
+pub mod Words
+pub mod Leaves
+pub mod Forms
+pub mod NameList
