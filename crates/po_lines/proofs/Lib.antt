@@ -1,1 +1,3 @@
 pub mod NameSet
+pub mod LineCuts
+pub mod SpanBounds

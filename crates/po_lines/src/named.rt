@@ -32,7 +32,14 @@ pub fn name(alloc: Global, word: &Word) -> Result<Name, LineError>
 fn is_name_like(bytes: &[u8]) -> bool
     ensures { result ≡ is_name_text bytes.now }
 {
-    begins_like_name(bytes) && bytes.iter().all(|byte| is_name_letter(*byte))
+    begins_like_name(bytes) && has_name_letters(bytes)
+}
+
+/// Whether each byte is a letter, a digit or `_`.
+fn has_name_letters(bytes: &[u8]) -> bool
+    ensures { result ≡ list_all is_name_byte bytes.now }
+{
+    bytes.iter().all(|byte| is_name_letter(*byte))
 }
 
 /// Whether there is a first byte, which is no digit.

@@ -1,6 +1,7 @@
 //! A word as a number within bounds. It is first asked whether the word is a number at all, and then for the bounds.
 
-ghost use Rattle.std.specs.Prelude.{◌≡◌, pos};
+ghost use Rattle.std.specs.Prelude.{◌≡◌, ◌≤ℤ◌, pos, negsuc, IfOk};
+ghost use Rattle.po_word.specs.Words.{word_of};
 ghost use Rattle.po_lines.specs.Faults.{Gives};
 ghost use Rattle.po_lines.specs.Leaves.{number_in, word_number_in, signed_number_in, small_number_in};
 ghost use Rattle.po_lines.specs.Words.{seen};
@@ -13,7 +14,8 @@ use po_text::{Kind, read_number};
 /// number outside the bounds is Number, each at the word's first byte (docs/LANGUAGE.md, "Lines"). Takes no memory.
 #[tactic(auto, unfolding(crate::specs::Leaves::number_in))]
 pub fn number_between(word: &Word, low: i64, high: i64) -> Result<i64, LineError>
-    ensures { Gives (λ n. n) result (number_in low high (seen word.now)) }
+    ensures gives { Gives (λ n. n) result (number_in low high (seen word.now)) }
+    ensures within { IfOk result (λ n. (low ≤ℤ n) × (n ≤ℤ high)) }
 {
     match read_number(word.bytes) {
         None => Err(fault_at(word.column, Kind::Word)),
@@ -33,7 +35,20 @@ pub fn word_number(word: &Word) -> Result<u32, LineError>
     ensures { Gives (λ n. n) result (word_number_in (seen word.now)) }
 {
     let number = number_between(word, -2147483648, 4294967295)?;
-    Ok(number.rem_euclid(4294967296) as u32)
+    Ok(machine_word(number))
+}
+
+/// The machine word of a number: the number modulo 2^32.
+fn machine_word(number: i64) -> u32
+    requires low { negsuc 2147483647 ≤ℤ number }
+    requires high { number ≤ℤ pos 4294967295 }
+    ensures { result ≡ word_of number }
+{
+    if number < 0 {
+        (number + 4294967296) as u32
+    } else {
+        number as u32
+    }
 }
 
 /// The word as a number from -2147483648 to 2147483647. Takes no memory.
@@ -42,7 +57,16 @@ pub fn signed_number(word: &Word) -> Result<i32, LineError>
     ensures { Gives (λ n. n) result (signed_number_in (seen word.now)) }
 {
     let number = number_between(word, -2147483648, 2147483647)?;
-    Ok(number as i32)
+    Ok(narrow(number))
+}
+
+/// The same number in 32 bits.
+fn narrow(number: i64) -> i32
+    requires low { negsuc 2147483647 ≤ℤ number }
+    requires high { number ≤ℤ pos 2147483647 }
+    ensures { result ≡ number }
+{
+    number as i32
 }
 
 /// The word as a number from 0 to `most`. Takes no memory.
