@@ -1,3 +1,4 @@
 pub mod NameSet
 pub mod LineCuts
 pub mod SpanBounds
+pub mod Results

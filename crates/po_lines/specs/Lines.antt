@@ -38,6 +38,10 @@ pub record Ahead : Type 0 where
   pub line : ℕ
   pub lines : List Numbered
 
+-- the number of the line behind the last one
+abbrev pub line_behind : Spot → List ℕ → ℕ
+line_behind at text = at.line + length (lines_behind at text)
+
 -- the first of the lines ahead is taken
 abbrev pub Takes : Ahead → Ahead → Option Line → Type 0
 Takes old new None = (old.lines ≡ []) × (new ≡ old)

@@ -11,6 +11,8 @@ mod named;
 mod names;
 mod numbers;
 mod split;
+#[cfg(test)]
+mod tests;
 mod word;
 
 pub use fault::{LineError, LineFault, fault_at, in_line, refused};
@@ -19,7 +21,7 @@ pub use form::{
     word_number_alone,
 };
 pub use line::Line;
-pub use lines::Lines;
+pub use lines::{Lines, ended_early};
 pub use named::name;
 pub use names::Names;
 pub use numbers::{number_between, signed_number, small_number, word_number};

@@ -5,8 +5,9 @@ ghost use Rattle.std.specs.List.{position};
 ghost use Rattle.std.specs.Str.Lines.{strip_carriage_return};
 ghost use Rattle.po_lines.specs.Lines.{is_feed, line_until, lines_behind, Takes};
 
+use crate::fault::refused;
 use crate::line::Line;
-use po_text::Spot;
+use po_text::{Kind, Spot, TextRefusal};
 use std::marker::Model;
 
 /// The lines of a text that are ahead. A contract sees them as the list of these lines, and the number that the next
@@ -72,6 +73,14 @@ impl<'a> Lines<'a> {
             after: self.offset,
         })
     }
+}
+
+/// The refusal of a text whose lines are all read and that ends too early: Word, at column 1 of the line behind the last
+/// one (docs/PROGRAM.md, "Faults of the text").
+pub fn ended_early(lines: &Lines) -> TextRefusal
+    ensures { result ≡ TextRefusal.BadText lines.now.line 1 Kind.Word }
+{
+    refused(lines.number(), 1, Kind::Word)
 }
 
 /// Where the first line feed stands.
