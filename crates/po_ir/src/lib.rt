@@ -1,6 +1,4 @@
 //! Stack code. Today its names alone.
 #![tactic(auto)]
 
-mod name;
-
-pub use name::Name;
+pub use po_name::Name;

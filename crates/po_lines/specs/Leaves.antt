@@ -5,7 +5,7 @@ use Rattle.std.specs.Cmp.Lexicographic.{pointwise}
 use Rattle.po_word.specs.Words.{word_of}
 use Rattle.po_text.specs.Number.{number_of}
 use Rattle.po_text.specs.declared.fault.Kind.TheVariants as kind
-use Rattle.po_ir.specs.Names.{is_name, is_name_byte, begins_name}
+use Rattle.po_name.specs.Names.{is_name, is_name_byte, begins_name}
 use Rattle.po_lines.specs.declared.fault.LineFault.{LineFault}
 use Rattle.po_lines.specs.Words.{Placed}
 use Rattle.po_lines.specs.Faults.{◌>>=◌, fault}

@@ -11,7 +11,7 @@ use crate::fault::{LineError, fault_at};
 use crate::named::name;
 use crate::numbers::word_number;
 use crate::word::Word;
-use po_ir::Name;
+use po_name::Name;
 use po_text::Kind;
 use std::alloc::Global;
 

@@ -2,14 +2,14 @@
 
 ghost use Rattle.std.specs.Prelude.{◌≡◌};
 ghost use Rattle.std.specs.List.{list_all};
-ghost use Rattle.po_ir.specs.Names.{begins_name, is_name_byte};
+ghost use Rattle.po_name.specs.Names.{begins_name, is_name_byte};
 ghost use Rattle.po_lines.specs.Faults.{Gives};
 ghost use Rattle.po_lines.specs.Leaves.{is_name_text, name_in};
 ghost use Rattle.po_lines.specs.Words.{seen};
 
 use crate::fault::{LineError, fault_at};
 use crate::word::Word;
-use po_ir::Name;
+use po_name::Name;
 use po_text::Kind;
 use std::alloc::Global;
 

@@ -1,6 +1,6 @@
 //! The code of a unit.
 
-use po_ir::Name;
+use po_name::Name;
 use po_term::{Instr, Label};
 
 /// A block: the label that names it, where it has one, and its instructions. A control transfer stands only in the last one.

@@ -2,7 +2,7 @@
 //!
 //! Everything here is plain data in contracts: two descriptions are equal where their contents are.
 
-use po_ir::Name;
+use po_name::Name;
 use po_term::Reg;
 use po_word::{Bin, Rel, Un};
 use sqlite_items::{Boxed, Items};

@@ -1,7 +1,7 @@
 //! Names: of machines, registers, units, labels and symbols. A contract sees a name as its bytes.
 ghost use Rattle.std.specs.Prelude.{◌≡◌, Some, None, IfOk, if◌then◌else◌};
 ghost use Rattle.std.specs.List.{list_all};
-ghost use Rattle.po_ir.specs.Names.{is_name, is_name_byte, begins_name};
+ghost use Rattle.po_name.specs.Names.{is_name, is_name_byte, begins_name};
 
 use po_word::OutOfMemory;
 use sqlite_items::Items;
@@ -17,7 +17,7 @@ pub struct Name {
 impl Model for Name {
     ghost use Rattle.std.specs.Prelude.{List, ℕ, IsTrue};
     ghost use Rattle.std.specs.Coded.{coded_list, coded_ℕ};
-    ghost use Rattle.po_ir.specs.Names.{is_name};
+    ghost use Rattle.po_name.specs.Names.{is_name};
 
     ghost Value = { List ℕ };
 
