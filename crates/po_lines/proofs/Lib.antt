@@ -5,3 +5,4 @@ pub mod Results
 pub mod NumberLaws
 pub mod NameLaws
 pub mod WordLaws
+pub mod Turns
