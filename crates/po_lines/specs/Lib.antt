@@ -4,3 +4,4 @@ pub mod Words
 pub mod Leaves
 pub mod Forms
 pub mod NameList
+pub mod Reading

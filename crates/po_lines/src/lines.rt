@@ -1,6 +1,6 @@
 //! The lines of a text from a place on, one behind the other. The lines ahead are those of the bytes that are left.
 
-ghost use Rattle.std.specs.Prelude.{◌≡◌, ◌+◌, ◌≤◌, ◌<◌, ◌^◌, length as length_of, length};
+ghost use Rattle.std.specs.Prelude.{◌≡◌, ◌+◌, ◌≤◌, ◌<◌, ◌^◌, length};
 ghost use Rattle.std.specs.List.{position};
 ghost use Rattle.std.specs.Str.Lines.{strip_carriage_return};
 ghost use Rattle.po_lines.specs.Lines.{is_feed, line_until, lines_behind, Takes};
@@ -91,12 +91,12 @@ fn feed_at(text: &[u8]) -> Option<usize>
 }
 
 /// The first line, whose line feed, if it has one, stands behind so many bytes.
-fn first_line(text: &[u8], length: usize) -> &[u8]
-    requires { length ≤ length_of text.now }
-    ensures { result.now ≡ line_until text.now length }
+fn first_line(text: &[u8], end: usize) -> &[u8]
+    requires { end ≤ length text.now }
+    ensures { result.now ≡ line_until text.now end }
 {
-    if length < text.len() {
-        without_return(&text[..length])
+    if end < text.len() {
+        without_return(&text[..end])
     } else {
         text
     }

@@ -1,6 +1,6 @@
 //! The words of a line with their columns.
 
-ghost use Rattle.std.specs.Prelude.{◌≡◌, ◌≤◌, ◌<◌, map, length};
+ghost use Rattle.std.specs.Prelude.{◌≡◌, ◌≤◌, ◌<◌, map, length, IfOk};
 ghost use Rattle.po_text.specs.declared.fault.Span.{Span};
 ghost use Rattle.po_lines.specs.Faults.{Gives};
 ghost use Rattle.po_lines.specs.Words as words;
@@ -14,7 +14,8 @@ use std::alloc::Global;
 /// 4097, whatever its words are (docs/LANGUAGE.md, "Lines").
 #[tactic(auto, unfolding(crate::specs::Words::line_words, crate::specs::Words::words_in))]
 pub fn line_words<'a>(alloc: Global, line: &'a [u8]) -> Result<Vec<Word<'a>>, LineError>
-    ensures { Gives (λ ws. map words.seen ws.items) result (words.line_words line.now) }
+    ensures gives { Gives (λ ws. map words.seen ws.items) result (words.line_words line.now) }
+    ensures short { IfOk result (λ ws. length line.now ≤ 4096) }
 {
     if line.len() > 4096 {
         return Err(fault_at(4097, Kind::TooMany));

@@ -9,8 +9,12 @@ use std::test::Fail;
 #[test]
 fn lines_of_a_text(rt: HostRuntime) {
     let text = b"a\r\n\n//\r b\n\r";
-    let all: [(&[u8], u32, usize); 4] =
-        [(b"a", 1, 3), (b"", 2, 4), (b"//\r b", 3, 10), (b"\r", 4, 11)];
+    let all: [(&[u8], u32, usize); 4] = [
+        (b"a", 1, 3),
+        (b"", 2, 4),
+        (b"//\r b", 3, 10),
+        (b"\r", 4, 11),
+    ];
     for (skipped, offset, line) in [(0, 0, 1), (2, 4, 3), (4, 11, 5)] {
         let mut lines = Lines::behind(text, Spot { offset, line });
         for (bytes, number, after) in &all[skipped..] {
@@ -23,7 +27,11 @@ fn lines_of_a_text(rt: HostRuntime) {
             assert_eq!(rt; found.after, *after, "line {number}");
         }
         assert!(rt; lines.next_line().is_none());
-        let wanted = TextRefusal::BadText { line: 5, col: 1, kind: Kind::Word };
+        let wanted = TextRefusal::BadText {
+            line: 5,
+            col: 1,
+            kind: Kind::Word,
+        };
         assert_eq!(rt; ended_early(&lines), wanted);
     }
 }
@@ -118,9 +126,17 @@ fn limits(rt: HostRuntime) -> Result<(), Fail> {
     ] {
         let wanted = match wanted {
             None => Ok(()),
-            Some(col) => Err(TextRefusal::BadText { line: 7, col, kind: Kind::TooMany }),
+            Some(col) => Err(TextRefusal::BadText {
+                line: 7,
+                col,
+                kind: Kind::TooMany,
+            }),
         };
-        assert_eq!(rt; in_line(7, read(alloc, &line[..length])), wanted, "{length}");
+        assert_eq!(rt;
+            in_line(7, read(alloc, &line[..length])),
+            wanted,
+            "{length}"
+        );
     }
     let mut names = Names::new(alloc);
     assert!(rt; names.insert(alloc, b"a")?);
