@@ -1,0 +1,7 @@
+pub mod Faults
+pub mod Lines
+pub mod Words
+pub mod Leaves
+pub mod Forms
+pub mod NameList
+pub mod Reading

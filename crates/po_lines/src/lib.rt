@@ -1,0 +1,29 @@
+//! What every reader of a text stands on: its lines from a place on, the words of a line with their columns, names,
+//! numbers and keywords, and the first fault of a line and of a text. A reader is proved equal to a definition on lists
+//! that gives the value or the first fault; only want of memory is left open.
+#![tactic(auto)]
+
+mod fault;
+mod form;
+mod line;
+mod lines;
+mod named;
+mod names;
+mod numbers;
+mod split;
+#[cfg(test)]
+mod tests;
+mod word;
+
+pub use fault::{LineError, LineFault, fault_at, in_line, refused};
+pub use form::{
+    end_column, first_word, keyword, name_alone, no_more, rest_words, same_text, says_nothing,
+    word_number_alone,
+};
+pub use line::Line;
+pub use lines::{Lines, ended_early};
+pub use named::name;
+pub use names::Names;
+pub use numbers::{number_between, signed_number, small_number, word_number};
+pub use split::line_words;
+pub use word::Word;
