@@ -1,0 +1,10 @@
+//! Which entry of a machine an instruction fits.
+//!
+//! `answer` has what is answered; `slots` has the ten operands that are filled on the way, and `walk` the way through a pattern and
+//! an instruction together.
+#![tactic(auto)]
+
+mod answer;
+mod slots;
+
+pub use answer::{Fit, Operand};
