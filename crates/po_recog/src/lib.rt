@@ -6,5 +6,6 @@
 
 mod answer;
 mod slots;
+mod walk;
 
 pub use answer::{Fit, Operand};
