@@ -72,3 +72,7 @@ binary_stopped o q same a p v t u ss us s e h f =
     let one : bin_eq o q ≡ true = sym s ∙ e in
     let first_stopped : None ≡ taken_if (tree_found places (Binary o (pattern_of p) (pattern_of v)) (Binary q t u)) ss = rw one (stopped a (tree_found places (pattern_of p) t) (tree_found places (pattern_of v) u) ss us h f) in
     first_stopped ∙ ap (λ (x : PatTree). taken_if (tree_found places x (Binary q t u)) ss) (sym (pattern_binary o p v))
+
+pub nothing_behind : (x : Option Finds) → both x None ≡ None
+nothing_behind None = refl
+nothing_behind (Some fs) = refl

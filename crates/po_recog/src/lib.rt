@@ -5,6 +5,7 @@
 #![tactic(auto)]
 
 mod answer;
+mod heads;
 mod slots;
 mod walk;
 

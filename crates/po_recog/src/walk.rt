@@ -15,13 +15,13 @@ use po_model::{PatCond, PatReg, PatTerm, PatTransfer};
 use po_term::{Cond, Label, Reg, Term, Transfer};
 use po_word::{Bin, Rel, Un};
 
-fn same_un(a: Un, b: Un) -> bool
+pub(crate) fn same_un(a: Un, b: Un) -> bool
     ensures { result ≡ un_eq a b }
 {
     a as u8 == b as u8
 }
 
-fn same_bin(a: Bin, b: Bin) -> bool
+pub(crate) fn same_bin(a: Bin, b: Bin) -> bool
     ensures { result ≡ bin_eq a b }
 {
     a as u8 == b as u8
@@ -129,9 +129,11 @@ pub(crate) fn takes_moves(
 ) -> bool
     ensures { outcome result slots.new ≡ taken_if (moves_found places (pat_moves_of ps.now) (moves_of xs.now)) slots.old }
 {
-    match (ps, xs) {
-        ([], []) => true,
-        ([p, ps @ ..], [x, xs @ ..]) => takes_move(p, x, slots) && takes_moves(ps, xs, slots),
-        _ => false,
+    match ps {
+        [] => xs.is_empty(),
+        [p, ps @ ..] => match xs {
+            [] => false,
+            [x, xs @ ..] => takes_move(p, x, slots) && takes_moves(ps, xs, slots),
+        },
     }
 }
