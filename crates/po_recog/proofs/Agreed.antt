@@ -14,7 +14,11 @@ use Rattle.po_term.specs.declared.term.Sym.{Sym as Symbol}
 use Rattle.po_term.specs.declared.term.Label.{Label as Target}
 use Rattle.po_term.specs.Kinds.{Met, words, ask, give, and_then}
 use Rattle.po_term.specs.Simplified.{reg_eq}
-use Rattle.po_model.specs.Fit.{Found, AtNumber, AtOperand, Thing, ARegister, AConstant, ASymbol, ALabel, places, operand_of, same_thing, is_like, agrees, all_agree, question, questions, all_yes, only_if, answered}
+use Rattle.po_term.specs.Terms.{Place}
+use Rattle.po_term.specs.Moves.{Move}
+use Rattle.po_model.specs.declared.machine.Entry.{Entry}
+use Rattle.po_model.specs.Patterns.{pat_moves_of}
+use Rattle.po_model.specs.Fit.{Found, AtNumber, AtOperand, Thing, ARegister, AConstant, ASymbol, ALabel, places, operand_of, same_thing, is_like, agrees, all_agree, question, questions, all_yes, only_if, answered, moves_found, entry_fit}
 use Rattle.po_recog.specs.declared.answer.Operand.{Operand}
 use Rattle.po_recog.specs.Operands.{operand_from, digits, operand_at, operands_in}
 use Rattle.po_recog.specs.Taken.{Slots, same_operand, lies_in, put_behind, taken_one, and_on, taken, taken_if}
@@ -212,7 +216,7 @@ first_put before k range x digit h =
     ap (λ b. if b then Some (slice_set (operands_in before) k (Some (operand_from x))) else None) (first_yes before k range x h)
     ∙ ap (λ (ss : Slots). if yes_to (question places before (AtOperand k range x)) then Some ss else None)
     (set_at k digit (λ j. operand_of places j before) x
-        ∙ sym (map-same (operand_at (before ++ AtOperand k range x ∷ [])) (with_one (λ i. operand_of places i before) k x) (added before k range x h) digits))
+    ∙ sym (map-same (operand_at (before ++ AtOperand k range x ∷ [])) (with_one (λ i. operand_of places i before) k x) (added before k range x h) digits))
 
 later_put : (before : List One) (k : ℕ) (range : Option (ℤ × ℤ)) (y x : It) → operand_of places k before ≡ Some y → put_behind (Some (Some (operand_from y))) k range (operand_from x) (operands_in before) ≡ filled (same_thing places y x && yes_to (question places before (AtOperand k range x))) (before ++ AtOperand k range x ∷ [])
 later_put before k range y x h =
@@ -270,3 +274,7 @@ answered_taken (Some fs) =
     all_taken fs []
     ∙ ap (λ b. filled (b && yes_to (questions places [] fs)) fs) (sym (all_behind fs []))
     ∙ answer_of (all_agree places fs) (yes_to (questions places [] fs)) fs (all_yes places words (questions places [] fs)) refl
+
+-- what an entry's walk leaves, where its heads are the same
+pub entry_filled : (e : Entry) (cc_live : Bool) (ms : List (Move ℕ Place Register Symbol)) → (e.clobbers && cc_live) ≡ false → option_map operands_in (entry_fit places words cc_live e ms).got ≡ taken_if (moves_found places (pat_moves_of e.pattern) ms) (operands_in [])
+entry_filled e cc_live ms h = rw h (sym (answered_taken (moves_found places (pat_moves_of e.pattern) ms)))

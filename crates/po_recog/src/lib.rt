@@ -5,8 +5,10 @@
 #![tactic(auto)]
 
 mod answer;
+mod entries;
 mod heads;
 mod slots;
 mod walk;
 
 pub use answer::{Fit, Operand};
+pub use entries::{fits_while_cc_is_dead, recognise};

@@ -64,13 +64,7 @@ fn takes_term(p: &PatTerm, t: &Term, slots: &mut [Option<Operand>]) -> bool
 }
 
 #[tactic(auto, using(crate::proofs::Walks::walked, crate::proofs::Walks::stopped))]
-fn takes_two(
-    p: &PatTerm,
-    q: &PatTerm,
-    t: &Term,
-    u: &Term,
-    slots: &mut [Option<Operand>],
-) -> bool
+fn takes_two(p: &PatTerm, q: &PatTerm, t: &Term, u: &Term, slots: &mut [Option<Operand>]) -> bool
     ensures { outcome result slots.new ≡ taken_if (both (tree_found places (pattern_of p.now) (tree_of t.now)) (tree_found places (pattern_of q.now) (tree_of u.now))) slots.old }
 {
     takes_term(p, t, slots) && takes_term(q, u, slots)
