@@ -8,6 +8,10 @@ mod answer;
 mod entries;
 mod heads;
 mod slots;
+#[cfg(test)]
+mod tests;
+#[cfg(test)]
+mod tiny;
 mod walk;
 
 pub use answer::{Fit, Operand};
