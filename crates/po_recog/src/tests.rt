@@ -1,7 +1,7 @@
 //! Instructions and the entries that they fit, on both sides of each rule.
 use self::Part::{Addr, Branch, Call, Cc, Goto, If, Mem, Num, Of, Ret, Set, Store, Two};
 use crate::tiny::machine;
-use crate::{Fit, Operand, recognise};
+use crate::{Operand, recognise};
 use po_term::{Cond, Label, Reg, Sym, Term, Transfer};
 use po_word::{Bin, OutOfMemory, Rel};
 use std::alloc::Global;
@@ -66,171 +66,139 @@ const IS_SYM: Stands = Some(Operand::Sym(Sym(6)));
 
 const IS_LABEL: Stands = Some(Operand::Label(Label(5)));
 
-/// An instruction, in words and in parts, whether `cc` is live, and the entry that it fits, with its first three operands.
-type Row = (
-    &'static str,
-    &'static [Part],
-    bool,
-    Option<(u32, [Stands; 3])>,
-);
+/// An instruction, in words and in parts, whether `cc` is live, the entry that it fits, and its first operands.
+type Fitting = (&'static str, &'static [Part], bool, u32, &'static [Stands]);
 
-const ROWS: [Row; 30] = [
+const FITTING: [Fitting; 19] = [
     (
         "v0 := (fp + 4)",
         &[FP, Num(4), PLUS, SET_0],
         true,
-        Some((1, [IS_V0, IS_4, None])),
+        1,
+        &[IS_V0, IS_4],
     ),
-    // only fp fits fp, and 200 is beyond the range
-    ("v1 := (v0 + 200)", &[V0, Num(200), PLUS, SET_1], true, None),
     (
         "M[(fp + 4)] := v1",
         &[FP, Num(4), PLUS, V1, Store],
         true,
-        Some((6, [IS_FP, IS_4, IS_V1])),
-    ),
-    // an entry that clobbers cc
-    (
-        "if v0 ? 4 eq goto L5, cc live",
-        &[V0, Num(4), Branch(Rel::Eq, 5)],
-        true,
-        None,
+        6,
+        &[IS_FP, IS_4, IS_V1],
     ),
     (
         "if v0 ? 4 eq goto L5, cc dead",
         &[V0, Num(4), Branch(Rel::Eq, 5)],
         false,
-        Some((20, [IS_V0, IS_4, IS_LABEL])),
-    ),
-    (
-        "if v0 ? 4 ne goto L5, cc dead",
-        &[V0, Num(4), Branch(Rel::Ne, 5)],
-        false,
-        None,
+        20,
+        &[IS_V0, IS_4, IS_LABEL],
     ),
     // both ends of a range, and what is beyond them, by the signed view
     (
         "v1 := (v0 + 127)",
         &[V0, Num(127), PLUS, SET_1],
         true,
-        Some((8, [IS_V1, IS_V0, IS_127])),
+        8,
+        &[IS_V1, IS_V0, IS_127],
     ),
-    ("v1 := (v0 + 128)", &[V0, Num(128), PLUS, SET_1], true, None),
     (
         "v1 := (v0 + -128)",
         &[V0, Num(-128), PLUS, SET_1],
         true,
-        Some((8, [IS_V1, IS_V0, IS_MINUS_128])),
-    ),
-    (
-        "v1 := (v0 + -129)",
-        &[V0, Num(-129), PLUS, SET_1],
-        true,
-        None,
+        8,
+        &[IS_V1, IS_V0, IS_MINUS_128],
     ),
     // %k stands for fp and rv too, and two operands for one register
-    (
-        "v0 := fp",
-        &[FP, SET_0],
-        true,
-        Some((9, [IS_V0, IS_FP, None])),
-    ),
+    ("v0 := fp", &[FP, SET_0], true, 9, &[IS_V0, IS_FP]),
     (
         "v0 := (v0 + v0)",
         &[V0, V0, PLUS, SET_0],
         true,
-        Some((7, [IS_V0, IS_V0, IS_V0])),
+        7,
+        &[IS_V0, IS_V0, IS_V0],
     ),
     // symbols, and calls with any number of arguments
-    (
-        "v0 := &6",
-        &[Addr(6), SET_0],
-        true,
-        Some((2, [IS_V0, IS_SYM, None])),
-    ),
-    (
-        "call 6 of 0",
-        &[Call(6, 0)],
-        true,
-        Some((22, [IS_SYM, None, None])),
-    ),
-    (
-        "call 6 of 4",
-        &[Call(6, 4)],
-        true,
-        Some((22, [IS_SYM, None, None])),
-    ),
+    ("v0 := &6", &[Addr(6), SET_0], true, 2, &[IS_V0, IS_SYM]),
+    ("call 6 of 0", &[Call(6, 0)], true, 22, &[IS_SYM]),
+    ("call 6 of 4", &[Call(6, 4)], true, 22, &[IS_SYM]),
     // relations, jumps, returns
-    (
-        "if cc ge goto L5",
-        &[If(Rel::Ge, 5)],
-        true,
-        Some((17, [IS_LABEL, None, None])),
-    ),
-    (
-        "goto L5",
-        &[Goto(5)],
-        true,
-        Some((21, [IS_LABEL, None, None])),
-    ),
-    ("ret", &[Ret], true, Some((23, [None, None, None]))),
-    (
-        "cc := v0 ? 4",
-        &[V0, Num(4), Cc],
-        true,
-        Some((11, [IS_V0, IS_4, None])),
-    ),
+    ("if cc ge goto L5", &[If(Rel::Ge, 5)], true, 17, &[IS_LABEL]),
+    ("goto L5", &[Goto(5)], true, 21, &[IS_LABEL]),
+    ("ret", &[Ret], true, 23, &[]),
+    ("cc := v0 ? 4", &[V0, Num(4), Cc], true, 11, &[IS_V0, IS_4]),
     // a repeated %k
     (
         "v0 := (v0 - v1)",
         &[V0, V1, MINUS, SET_0],
         true,
-        Some((24, [IS_V0, IS_V1, None])),
+        24,
+        &[IS_V0, IS_V1],
     ),
-    ("v0 := (v1 - v0)", &[V1, V0, MINUS, SET_0], true, None),
     // a repeated #k
     (
         "v0 := (v1 * (4 * 4))",
         &[V1, Num(4), Num(4), TIMES, TIMES, SET_0],
         true,
-        Some((25, [IS_V0, IS_V1, IS_4])),
-    ),
-    (
-        "v0 := (v1 * (4 * 5))",
-        &[V1, Num(4), Num(5), TIMES, TIMES, SET_0],
-        true,
-        None,
+        25,
+        &[IS_V0, IS_V1, IS_4],
     ),
     // a number
     (
         "v0 := (v1 << -3)",
         &[V1, Num(-3), SHL, SET_0],
         true,
-        Some((26, [IS_V0, IS_V1, None])),
+        26,
+        &[IS_V0, IS_V1],
     ),
-    ("v0 := (v1 << 3)", &[V1, Num(3), SHL, SET_0], true, None),
     // two transfers
     (
         "v0 := M[v1] ; v1 := (v1 + 4)",
         &[V1, Mem, SET_0, V1, Num(4), PLUS, SET_1],
         true,
-        Some((27, [IS_V0, IS_V1, IS_4])),
+        27,
+        &[IS_V0, IS_V1, IS_4],
     ),
-    (
-        "v0 := M[v1] ; v1 := (v0 + 4)",
-        &[V1, Mem, SET_0, V0, Num(4), PLUS, SET_1],
-        true,
-        None,
-    ),
-    ("v0 := M[v1] ; ret", &[V1, Mem, SET_0, Ret], true, None),
     // a fixed register
     (
         "rv := (v0 ^ 4)",
         &[V0, Num(4), XOR, SET_RV],
         true,
-        Some((28, [IS_V0, IS_4, None])),
+        28,
+        &[IS_V0, IS_4],
     ),
-    ("v1 := (v0 ^ 4)", &[V0, Num(4), XOR, SET_1], true, None),
+];
+
+/// An instruction that fits no entry.
+type Unfit = (&'static str, &'static [Part], bool);
+
+const UNFIT: [Unfit; 11] = [
+    // only fp fits fp, and 200 is beyond the range
+    ("v1 := (v0 + 200)", &[V0, Num(200), PLUS, SET_1], true),
+    // an entry that clobbers cc
+    (
+        "if v0 ? 4 eq goto L5, cc live",
+        &[V0, Num(4), Branch(Rel::Eq, 5)],
+        true,
+    ),
+    (
+        "if v0 ? 4 ne goto L5, cc dead",
+        &[V0, Num(4), Branch(Rel::Ne, 5)],
+        false,
+    ),
+    ("v1 := (v0 + 128)", &[V0, Num(128), PLUS, SET_1], true),
+    ("v1 := (v0 + -129)", &[V0, Num(-129), PLUS, SET_1], true),
+    ("v0 := (v1 - v0)", &[V1, V0, MINUS, SET_0], true),
+    (
+        "v0 := (v1 * (4 * 5))",
+        &[V1, Num(4), Num(5), TIMES, TIMES, SET_0],
+        true,
+    ),
+    ("v0 := (v1 << 3)", &[V1, Num(3), SHL, SET_0], true),
+    (
+        "v0 := M[v1] ; v1 := (v0 + 4)",
+        &[V1, Mem, SET_0, V0, Num(4), PLUS, SET_1],
+        true,
+    ),
+    ("v0 := M[v1] ; ret", &[V1, Mem, SET_0, Ret], true),
+    ("v1 := (v0 ^ 4)", &[V0, Num(4), XOR, SET_1], true),
 ];
 
 fn pop(stack: &mut Vec<Term>) -> Term {
@@ -305,25 +273,33 @@ fn transfers(alloc: Global, parts: &[Part]) -> Result<Vec<Transfer>, OutOfMemory
     Ok(xs)
 }
 
-/// The entry and its first three operands; the seven others are none.
-fn first_three(found: &Option<Fit>) -> Option<(u32, [Stands; 3])> {
-    let fit = found.as_ref()?;
-    match fit.operands.as_slice() {
-        [a, b, c, None, None, None, None, None, None, None] => Some((fit.entry, [*a, *b, *c])),
-        _ => None,
-    }
+fn first_are(operands: &[Stands], want: &[Stands]) -> bool {
+    operands.len() == 10 && operands.iter().zip(want).all(|(a, b)| *a == *b)
 }
 
 #[test]
-fn rows(rt: HostRuntime) -> Result<(), Fail> {
+fn fitting(rt: HostRuntime) -> Result<(), Fail> {
     let alloc = rt.alloc();
     let m = machine(alloc)?;
     assert_eq!(rt; m.entries.len(), 29);
-    for (words, parts, cc_live, want) in ROWS {
+    for (words, parts, cc_live, entry, operands) in FITTING {
+        let xs = transfers(alloc, parts)?;
+        let fit = recognise(alloc, &m, xs.as_slice(), cc_live)?.ok_or(words)?;
+        assert_eq!(rt; fit.entry, entry, "{words}");
+        assert!(rt; first_are(fit.operands.as_slice(), operands), "{words}");
+    }
+    Ok(())
+}
+
+#[test]
+fn unfit(rt: HostRuntime) -> Result<(), Fail> {
+    let alloc = rt.alloc();
+    let m = machine(alloc)?;
+    assert_eq!(rt; m.entries.len(), 29);
+    for (words, parts, cc_live) in UNFIT {
         let xs = transfers(alloc, parts)?;
         let found = recognise(alloc, &m, xs.as_slice(), cc_live)?;
-        assert_eq!(rt; found.is_some(), want.is_some(), "{words}");
-        assert!(rt; first_three(&found) == want, "{words}");
+        assert!(rt; found.is_none(), "{words}");
     }
     Ok(())
 }

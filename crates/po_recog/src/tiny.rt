@@ -190,13 +190,22 @@ fn name(alloc: Global, letters: &str) -> Result<Name, Fail> {
     Ok(name.ok_or("no name")?)
 }
 
-pub(crate) fn machine(alloc: Global) -> Result<Machine, Fail> {
+/// A machine of these entries, with no registers.
+fn with_entries(alloc: Global, entries: Items<Entry>) -> Result<Machine, Fail> {
+    let tiny = name(alloc, "tiny")?;
+    let frame = name(alloc, "fp")?;
+    let result = name(alloc, "rv")?;
     Ok(Machine {
-        name: name(alloc, "tiny")?,
-        frame: name(alloc, "fp")?,
-        result: name(alloc, "rv")?,
+        name: tiny,
+        frame,
+        result,
         args: Items::new(alloc),
         regs: Items::new(alloc),
-        entries: entries(alloc)?,
+        entries,
     })
+}
+
+pub(crate) fn machine(alloc: Global) -> Result<Machine, Fail> {
+    let entries = entries(alloc)?;
+    with_entries(alloc, entries)
 }
