@@ -1,7 +1,10 @@
 //! Instructions and the entries that they fit, on both sides of each rule.
+ghost use Rattle.std.specs.Prelude.{◌<◌, ◌^◌, length};
+
 use self::Part::{Addr, Branch, Call, Cc, Goto, If, Mem, Num, Of, Ret, Set, Store, Two};
 use crate::tiny::machine;
-use crate::{Operand, recognise};
+use crate::{Fit, Operand, recognise};
+use po_model::Machine;
 use po_term::{Cond, Label, Reg, Sym, Term, Transfer};
 use po_word::{Bin, OutOfMemory, Rel};
 use std::alloc::Global;
@@ -273,8 +276,27 @@ fn transfers(alloc: Global, parts: &[Part]) -> Result<Vec<Transfer>, OutOfMemory
     Ok(xs)
 }
 
+fn found(
+    alloc: Global,
+    m: &Machine,
+    parts: &[Part],
+    cc_live: bool,
+) -> Result<Option<Fit>, OutOfMemory>
+    requires { length m.now.entries < 2 ^ 32 }
+{
+    let xs = transfers(alloc, parts)?;
+    recognise(alloc, m, xs.as_slice(), cc_live)
+}
+
 fn first_are(operands: &[Stands], want: &[Stands]) -> bool {
     operands.len() == 10 && operands.iter().zip(want).all(|(a, b)| *a == *b)
+}
+
+fn is_fit(found: Option<Fit>, entry: u32, operands: &[Stands]) -> bool {
+    match found {
+        Some(fit) => fit.entry == entry && first_are(fit.operands.as_slice(), operands),
+        None => false,
+    }
 }
 
 #[test]
@@ -283,10 +305,8 @@ fn fitting(rt: HostRuntime) -> Result<(), Fail> {
     let m = machine(alloc)?;
     assert_eq!(rt; m.entries.len(), 29);
     for (words, parts, cc_live, entry, operands) in FITTING {
-        let xs = transfers(alloc, parts)?;
-        let fit = recognise(alloc, &m, xs.as_slice(), cc_live)?.ok_or(words)?;
-        assert_eq!(rt; fit.entry, entry, "{words}");
-        assert!(rt; first_are(fit.operands.as_slice(), operands), "{words}");
+        let fit = found(alloc, &m, parts, cc_live)?;
+        assert!(rt; is_fit(fit, entry, operands), "{words}");
     }
     Ok(())
 }
@@ -297,9 +317,8 @@ fn unfit(rt: HostRuntime) -> Result<(), Fail> {
     let m = machine(alloc)?;
     assert_eq!(rt; m.entries.len(), 29);
     for (words, parts, cc_live) in UNFIT {
-        let xs = transfers(alloc, parts)?;
-        let found = recognise(alloc, &m, xs.as_slice(), cc_live)?;
-        assert!(rt; found.is_none(), "{words}");
+        let fit = found(alloc, &m, parts, cc_live)?;
+        assert!(rt; fit.is_none(), "{words}");
     }
     Ok(())
 }

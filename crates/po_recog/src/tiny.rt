@@ -190,11 +190,11 @@ fn name(alloc: Global, letters: &str) -> Result<Name, Fail> {
     Ok(name.ok_or("no name")?)
 }
 
-/// A machine of these entries, with no registers.
-fn with_entries(alloc: Global, entries: Items<Entry>) -> Result<Machine, Fail> {
+pub(crate) fn machine(alloc: Global) -> Result<Machine, Fail> {
     let tiny = name(alloc, "tiny")?;
     let frame = name(alloc, "fp")?;
     let result = name(alloc, "rv")?;
+    let entries = entries(alloc)?;
     Ok(Machine {
         name: tiny,
         frame,
@@ -203,9 +203,4 @@ fn with_entries(alloc: Global, entries: Items<Entry>) -> Result<Machine, Fail> {
         regs: Items::new(alloc),
         entries,
     })
-}
-
-pub(crate) fn machine(alloc: Global) -> Result<Machine, Fail> {
-    let entries = entries(alloc)?;
-    with_entries(alloc, entries)
 }
