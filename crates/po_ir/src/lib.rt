@@ -11,6 +11,9 @@ mod rules;
 mod state;
 mod unit;
 mod words;
+mod name;
+#[cfg(test)]
+mod tests;
 
 pub use po_name::Name;
 pub use read::read_units;

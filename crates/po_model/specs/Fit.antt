@@ -3,7 +3,7 @@
 -- The structure is compared first, without a question: the number of transfers, their kinds, relations and operators, fixed
 -- registers, and what stands again at a repeated operand. Then the constants are asked from left to right.
 -- At `words` and `places` this is recognition. At another kind of constants it is the same reading over them.
-use Rattle.std.specs.Prelude.{ℕ, suc, ℤ, Bool, true, false, ◌&&◌, ◌==◌, if◌then◌else◌, List, [], ◌∷◌, ◌++◌, Option, Some, None}
+use Rattle.std.specs.Prelude.{ℕ, suc, ℤ, Bool, true, false, ◌&&◌, ◌==◌, nat_lt, if◌then◌else◌, List, [], ◌∷◌, ◌++◌, Option, Some, None}
 use Rattle.std.specs.List.{list_all}
 use Rattle.po_word.specs.declared.operator.Un.{Un}
 use Rattle.po_word.specs.declared.operator.Bin.{Bin}
@@ -129,9 +129,10 @@ module _ {K L R S : Type 0} (leaves : Leaves L R S) where
   is_like None x = true
   is_like (Some y) x = same_thing y x
 
+  -- an operand is a digit, and the same thing as at its first place
   abbrev pub agrees : List (Found K R S) → Found K R S → Bool
   agrees fs (AtNumber n c) = true
-  agrees fs (AtOperand k range x) = is_like (operand_of k fs) x
+  agrees fs (AtOperand k range x) = nat_lt k 10 && is_like (operand_of k fs) x
 
   abbrev pub all_agree : List (Found K R S) → Bool
   all_agree fs = list_all (agrees fs) fs

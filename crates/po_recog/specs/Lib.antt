@@ -1,0 +1,3 @@
+pub mod Operands
+pub mod Taken
+pub mod Filled
