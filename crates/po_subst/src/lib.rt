@@ -1,0 +1,4 @@
+//! One instruction read through another.
+#![tactic(auto)]
+
+mod alias;
