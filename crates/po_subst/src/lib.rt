@@ -1,4 +1,9 @@
 //! One instruction read through another.
 #![tactic(auto)]
 
-mod alias;
+mod addresses;
+mod forwarding;
+mod parts;
+
+pub use addresses::alias;
+pub use forwarding::forward;

@@ -3,7 +3,7 @@ use Rattle.po_term.specs.declared.term.Alias.{Alias}
 use Rattle.po_term.specs.Terms.{tree_of}
 use Rattle.po_model.specs.Meets.{Meets}
 use Rattle.po_subst.proofs.Meeting.{alias_right}
-use Rattle.po_subst.proofs.alias.alias.Goals as goal
+use Rattle.po_subst.proofs.addresses.alias.Goals as goal
 
 pub returns-clause-means : goal.returns-clause-means
 returns-clause-means c = λ s fits h i.
