@@ -56,13 +56,30 @@ module _ {K L R S : Type 0} where
   abbrev pub in_order : List (Move K L R S) → List (Move K L R S)
   in_order ms = filter is_set ms ++ filter is_cc ms ++ filter is_store ms ++ filter is_control ms
 
-module _ {K L R S : Type 0} (k : Kind K) (same : Sameness L R) (live : R → Bool) (cc_live : Bool) where
-  -- a transfer of B that sets something live, or more than that
-  abbrev pub is_wanted : Move K L R S → Bool
-  is_wanted (SetTo r t) = live r
-  is_wanted (CcTo t u) = cc_live
-  is_wanted m = true
+  -- r := r, where `same` says of leaves whether they are one
+  abbrev pub is_idle : Sameness L R → Move K L R S → Bool
+  is_idle same (SetTo r (Leaf l)) = same.same_register l (same.in_register r)
+  is_idle same m = false
 
+  -- a list of transfers, or nothing
+  abbrev pub listed : List (Move K L R S) → Joint K L R S
+  listed [] = NothingLeft
+  listed (m ∷ ms) = AsOne (m ∷ ms)
+
+  -- a transfer of B that sets something live, or does more than set
+  abbrev pub is_wanted : (R → Bool) → Bool → Move K L R S → Bool
+  is_wanted live cc_live (SetTo r t) = live r
+  is_wanted live cc_live (CcTo t u) = cc_live
+  is_wanted live cc_live m = true
+
+  -- a transfer of A that stays beside b: a set or cc that is live and that b doesn't set, and a store where b has none
+  abbrev pub is_kept : Sameness L R → (R → Bool) → Bool → List (Move K L R S) → Move K L R S → Bool
+  is_kept same live cc_live b (SetTo r t) = live r && not (is_some (right_at same (same.in_register r) b))
+  is_kept same live cc_live b (CcTo t u) = cc_live && not (is_some (cc_of b))
+  is_kept same live cc_live b (StoreTo t u) = not (is_some (store_of b))
+  is_kept same live cc_live b (Ends e) = false
+
+module _ {K L R S : Type 0} (k : Kind K) (same : Sameness L R) where
   -- a branch on cc: it compares what A compares, where A does
   abbrev pub forward_branch : Option (Tree K L × Tree K L) → Rel → Label → Met K (List (Move K L R S))
   forward_branch None r l = give (Ends (IfCc r l) ∷ [])
@@ -81,35 +98,21 @@ module _ {K L R S : Type 0} (k : Kind K) (same : Sameness L R) (live : R → Boo
   forward_moves a [] = give (Some [])
   forward_moves a (m ∷ ms) = and_some (forward_move a m) (λ xs. and_some (forward_moves a ms) (λ ys. give (Some (xs ++ ys))))
 
-  -- a transfer of A that stays beside b: a set or cc that is live and that b doesn't set, and a store where b has none
-  abbrev pub is_kept : List (Move K L R S) → Move K L R S → Bool
-  is_kept b (SetTo r t) = live r && not (is_some (right_at same (same.in_register r) b))
-  is_kept b (CcTo t u) = cc_live && not (is_some (cc_of b))
-  is_kept b (StoreTo t u) = not (is_some (store_of b))
-  is_kept b (Ends e) = false
-
-  -- r := r
-  abbrev pub is_idle : Move K L R S → Bool
-  is_idle (SetTo r (Leaf l)) = same.same_register l (same.in_register r)
-  is_idle m = false
-
-  abbrev pub listed : List (Move K L R S) → Joint K L R S
-  listed [] = NothingLeft
-  listed (m ∷ ms) = AsOne (m ∷ ms)
-
-  -- a is A simplified, wanted is B without what isn't live, and b is that with its terms forwarded through a
-  abbrev pub assembled : List (Move K L R S) → List (Move K L R S) → List (Move K L R S) → Joint K L R S
-  assembled a wanted b = listed (filter (λ m. not (is_idle m)) (in_order (filter (is_kept wanted) a ++ b)))
+module _ {K L R S : Type 0} (k : Kind K) (same : Sameness L R) (live : R → Bool) (cc_live : Bool) where
+  -- the list of what stays of A and of B: a is A simplified, wanted is B without what isn't live, and b is that with its terms
+  -- forwarded through a
+  abbrev pub assembled : List (Move K L R S) → List (Move K L R S) → List (Move K L R S) → List (Move K L R S)
+  assembled a wanted b = filter (λ m. not (is_idle same m)) (in_order (filter (is_kept same live cc_live wanted) a ++ b))
 
   abbrev pub with_forwarded : List (Move K L R S) → List (Move K L R S) → Option (List (Move K L R S)) → Met K (Joint K L R S)
   with_forwarded a wanted None = give NotJoined
-  with_forwarded a wanted (Some b) = and_then (covers k same (store_of a) (store_of b)) (λ yes. give (if yes then assembled a wanted b else NotJoined))
+  with_forwarded a wanted (Some b) = and_then (covers k same (store_of a) (store_of b)) (λ yes. give (if yes then listed (assembled a wanted b) else NotJoined))
 
   abbrev pub join_simple : List (Move K L R S) → List (Move K L R S) → Met K (Joint K L R S)
-  join_simple a wanted = and_then (forward_moves a wanted) (λ b. with_forwarded a wanted b)
+  join_simple a wanted = and_then (forward_moves k same a wanted) (λ b. with_forwarded a wanted b)
 
   -- what A and B come to
   abbrev pub joined : List (Move K L R S) → List (Move K L R S) → Met K (Joint K L R S)
   joined a b =
       if list_any is_control a || list_any is_away b then give NotJoined
-      else and_then (simple_moves k same.same_register a) (λ simple_a. join_simple simple_a (filter is_wanted b))
+      else and_then (simple_moves k same.same_register a) (λ simple_a. join_simple simple_a (filter (is_wanted live cc_live) b))

@@ -1,3 +1,4 @@
 pub mod Agreeing
 pub mod Meeting
 pub mod Symbols
+pub mod Choices

@@ -3,7 +3,9 @@
 
 mod addresses;
 mod forwarding;
+mod choosing;
 mod parts;
+mod transfers;
 
 pub use addresses::alias;
 pub use forwarding::forward;
