@@ -2,3 +2,4 @@ pub mod Agreeing
 pub mod Meeting
 pub mod Symbols
 pub mod Choices
+pub mod Steps

@@ -6,6 +6,9 @@ use Rattle.po_term.specs.declared.term.Sym.{Sym}
 use Rattle.po_term.specs.declared.transfer.Transfer.{Transfer}
 use Rattle.po_term.specs.declared.transfer.Instr.{Instr}
 use Rattle.po_term.specs.Terms.{Place}
+use Rattle.po_term.specs.Kinds.{words}
+use Rattle.po_model.specs.Parts.{plainly}
+use Rattle.po_model.specs.Joined.{is_wanted, forward_move}
 use Rattle.po_term.specs.Moves.{Move, move_of, moves_of, instr_of}
 
 abbrev pub Step : Type 0
@@ -26,3 +29,7 @@ instr_made made = option_map instr_of made
 -- a transfer that was made, as a list, where there is one
 abbrev pub move_made : Option Transfer → Option (List Step)
 move_made made = option_map (λ t. move_of t ∷ []) made
+
+-- what a transfer of B becomes: nothing where it isn't wanted
+abbrev pub wanted_move : (Register → Bool) → Bool → List Step → Step → Option (List Step)
+wanted_move live cc_live a m = if is_wanted live cc_live m then (forward_move words plainly a m).got else Some []

@@ -8,7 +8,7 @@ ghost use Rattle.po_model.specs.LiveSet.{is_live};
 ghost use Rattle.po_model.specs.Parts.{plainly, cc_of};
 ghost use Rattle.po_model.specs.Joined.{is_wanted, forward_branch, forward_move, forward_moves};
 ghost use Rattle.po_subst.specs.Seen.{tree_made};
-ghost use Rattle.po_subst.specs.Found.{known_moves, behind, instr_made, move_made};
+ghost use Rattle.po_subst.specs.Found.{known_moves, behind, instr_made, move_made, wanted_move};
 
 use crate::choosing::is_wanted;
 use crate::forwarding::forward;
@@ -184,4 +184,40 @@ fn push_forwarded(
         Transfer::Call(s, n) => push_known(xs, Some(Transfer::Call(*s, *n))),
         Transfer::Ret => push_known(xs, Some(Transfer::Ret)),
     }
+}
+
+/// Appends what a transfer becomes that is read after the instruction a, and nothing where it isn't wanted; false where what it
+/// becomes isn't known.
+fn push_wanted(
+    alloc: Global,
+    xs: &mut Vec<Transfer>,
+    a: &Instr,
+    t: &Transfer,
+    live: &Live,
+) -> Result<bool, OutOfMemory>
+    ensures { IfOk result (λ known. known_moves known xs.new.items ≡ behind xs.old.items (wanted_move (is_live live.now) live.now.cc (instr_of a.now) (move_of t.now))) }
+{
+    if is_wanted(t, live) {
+        push_forwarded(alloc, xs, a, t)
+    } else {
+        Ok(true)
+    }
+}
+
+/// The wanted transfers of the instruction b, read after the instruction a; `None` where one isn't known.
+pub fn forward_wanted(
+    alloc: Global,
+    a: &Instr,
+    b: &Instr,
+    live: &Live,
+) -> Result<Option<Instr>, OutOfMemory>
+    ensures { IfOk result (λ made. instr_made made ≡ (forward_moves words plainly (instr_of a.now) (filter (is_wanted (is_live live.now) live.now.cc) (instr_of b.now))).got) }
+{
+    let mut xs = Vec::new(alloc);
+    for t in &b.xs {
+        if !push_wanted(alloc, &mut xs, a, t, live)? {
+            return Ok(None);
+        }
+    }
+    Ok(Some(Instr { xs }))
 }
