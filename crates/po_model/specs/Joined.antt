@@ -79,6 +79,11 @@ module _ {K L R S : Type 0} where
   is_kept same live cc_live b (StoreTo t u) = not (is_some (store_of b))
   is_kept same live cc_live b (Ends e) = false
 
+  -- the list of what stays of A and of B: a is A simplified, wanted is B without what isn't live, and b is that with its terms
+  -- forwarded through a
+  abbrev pub assembled : Sameness L R → (R → Bool) → Bool → List (Move K L R S) → List (Move K L R S) → List (Move K L R S) → List (Move K L R S)
+  assembled same live cc_live a wanted b = filter (λ m. not (is_idle same m)) (in_order (filter (is_kept same live cc_live wanted) a ++ b))
+
 module _ {K L R S : Type 0} (k : Kind K) (same : Sameness L R) where
   -- a branch on cc: it compares what A compares, where A does
   abbrev pub forward_branch : Option (Tree K L × Tree K L) → Rel → Label → Met K (List (Move K L R S))
@@ -99,14 +104,9 @@ module _ {K L R S : Type 0} (k : Kind K) (same : Sameness L R) where
   forward_moves a (m ∷ ms) = and_some (forward_move a m) (λ xs. and_some (forward_moves a ms) (λ ys. give (Some (xs ++ ys))))
 
 module _ {K L R S : Type 0} (k : Kind K) (same : Sameness L R) (live : R → Bool) (cc_live : Bool) where
-  -- the list of what stays of A and of B: a is A simplified, wanted is B without what isn't live, and b is that with its terms
-  -- forwarded through a
-  abbrev pub assembled : List (Move K L R S) → List (Move K L R S) → List (Move K L R S) → List (Move K L R S)
-  assembled a wanted b = filter (λ m. not (is_idle same m)) (in_order (filter (is_kept same live cc_live wanted) a ++ b))
-
   abbrev pub with_forwarded : List (Move K L R S) → List (Move K L R S) → Option (List (Move K L R S)) → Met K (Joint K L R S)
   with_forwarded a wanted None = give NotJoined
-  with_forwarded a wanted (Some b) = and_then (covers k same (store_of a) (store_of b)) (λ yes. give (if yes then listed (assembled a wanted b) else NotJoined))
+  with_forwarded a wanted (Some b) = and_then (covers k same (store_of a) (store_of b)) (λ yes. give (if yes then listed (assembled same live cc_live a wanted b) else NotJoined))
 
   abbrev pub join_simple : List (Move K L R S) → List (Move K L R S) → Met K (Joint K L R S)
   join_simple a wanted = and_then (forward_moves k same a wanted) (λ b. with_forwarded a wanted b)

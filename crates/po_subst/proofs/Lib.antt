@@ -3,3 +3,5 @@ pub mod Meeting
 pub mod Symbols
 pub mod Choices
 pub mod Steps
+pub mod Kept
+pub mod InOrder
