@@ -118,12 +118,12 @@ fn in_one(by_kind: ByKind) -> Result<Instr, OutOfMemory>
 }
 
 /// What stays of the simplified instruction a and of p's second: b is what of the second is wanted, read after a.
-#[tactic(auto, using(crate::proofs::InOrder::assembled_of))]
 pub fn assemble(alloc: Global, a: Instr, b: Instr, p: &Pair) -> Result<Instr, OutOfMemory>
     ensures { IfOk result (λ i. instr_of i ≡ assembled plainly (is_live p.now.live) p.now.live.cc (instr_of a) (filter (is_wanted (is_live p.now.live) p.now.live.cc) (instr_of p.now.b)) (instr_of b)) }
 {
     let mut by_kind = none_yet(alloc);
     add_kept(&mut by_kind, a, &p.b, &p.live)?;
     add_all(&mut by_kind, b)?;
-    in_one(by_kind)
+    let i = in_one(by_kind)?;
+    Ok(i)
 }
