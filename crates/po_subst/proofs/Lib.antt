@@ -5,3 +5,4 @@ pub mod Choices
 pub mod Steps
 pub mod Kept
 pub mod InOrder
+pub mod ForwardFollows
