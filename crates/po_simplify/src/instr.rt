@@ -12,9 +12,9 @@ use po_term::{Cond, Instr, Label, Term, Transfer};
 use po_word::{OutOfMemory, Rel, holds};
 use std::alloc::Global;
 
-/// What becomes of a branch on two simplified terms. On two constants it is a jump where the relation holds, and nothing where it
-/// doesn't.
-fn decide(a: Term, b: Term, rel: Rel, to: Label) -> Option<Transfer>
+/// What becomes of a branch on two simplified terms (docs/OPTIMISER.md, "The simplifier"). On two constants it is a jump where the
+/// relation holds, and nothing where it doesn't.
+pub fn decide(a: Term, b: Term, rel: Rel, to: Label) -> Option<Transfer>
     ensures { moves_of (option_to_list result) ≡ (decided words same_register (tree_of a) (tree_of b) rel to).got }
 {
     match a {

@@ -14,6 +14,6 @@ mod terms;
 #[cfg(test)]
 mod tests;
 
-pub use instr::simplify_instr;
+pub use instr::{decide, simplify_instr};
 pub use make::{make_bin, make_un};
 pub use terms::simplify;
