@@ -2,5 +2,7 @@
 #![tactic(auto)]
 
 mod name;
+#[cfg(test)]
+mod tests;
 
 pub use name::Name;
