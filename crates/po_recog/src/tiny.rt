@@ -2,7 +2,7 @@
 use self::Part::{
     Addr, Any, Branch, Byte, Call, Cc, Const, Fixed, Goto, If, Mem, Num, Ret, Set, Store, Two,
 };
-use po_ir::Name;
+use po_name::Name;
 use po_model::{Entry, Machine, PatCond, PatReg, PatTerm, PatTransfer};
 use po_term::Reg;
 use po_word::{Bin, OutOfMemory, Rel};
