@@ -2,8 +2,8 @@
 use self::Part::{
     Addr, Any, Branch, Byte, Call, Cc, Const, Fixed, Goto, If, Mem, Num, Ret, Set, Store, Two,
 };
-use po_name::Name;
 use po_model::{Entry, Machine, PatCond, PatReg, PatTerm, PatTransfer};
+use po_name::Name;
 use po_term::Reg;
 use po_word::{Bin, OutOfMemory, Rel};
 use sqlite_items::{Boxed, Items};

@@ -23,8 +23,8 @@ listing_moving : (ms : List Step) → listing (kinds_of ms) ≡ filter is_moving
 listing_moving ms =
     rw (filter_swap is_set is_moving ms, filter_swap is_cc is_moving ms, filter_swap is_store is_moving ms, filter_swap is_control is_moving ms)
     (sym (filter-append is_moving (filter is_set ms ++ filter is_cc ms ++ filter is_store ms) (filter is_control ms)
-      ∙ ap (λ xs. xs ++ filter is_moving (filter is_control ms)) (filter-append is_moving (filter is_set ms ++ filter is_cc ms) (filter is_store ms)
-      ∙ ap (λ xs. xs ++ filter is_moving (filter is_store ms)) (filter-append is_moving (filter is_set ms) (filter is_cc ms)))))
+    ∙ ap (λ xs. xs ++ filter is_moving (filter is_control ms)) (filter-append is_moving (filter is_set ms ++ filter is_cc ms) (filter is_store ms)
+    ∙ ap (λ xs. xs ++ filter is_moving (filter is_store ms)) (filter-append is_moving (filter is_set ms) (filter is_cc ms)))))
 
 pub assembled_of : (live : Register → Bool) (cc_live : Bool) (none kept all : ByKind) (a b forwarded i : List Step) → ((ms : List Step) → with_rest none ms ≡ kinds_of ms) → ((ms : List Step) → with_rest kept ms ≡ with_rest none (kept_beside live cc_live b a ++ ms)) → ((ms : List Step) → with_rest all ms ≡ with_rest kept (forwarded ++ ms)) → i ≡ listing (with_rest all []) → i ≡ assembled plainly live cc_live a (filter (is_wanted live cc_live) b) forwarded
 assembled_of live cc_live none kept all a b forwarded i e f g h =

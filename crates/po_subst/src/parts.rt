@@ -20,13 +20,7 @@ fn right_in(t: &Transfer, r: Reg) -> Option<&Term>
     ensures { tree_found result ≡ right_at plainly (InReg r) (move_of t.now ∷ []) }
 {
     match t {
-        Transfer::Set(q, u) => {
-            if is_one(r, *q) {
-                Some(u)
-            } else {
-                None
-            }
-        }
+        Transfer::Set(q, u) => { if is_one(r, *q) { Some(u) } else { None } }
         _ => None,
     }
 }

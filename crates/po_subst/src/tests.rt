@@ -117,10 +117,20 @@ const FP_4: &[Part] = &[Fp, Num(4), Plus];
 /// Two addresses in words, and how they meet.
 const ADDRESSES: [(&str, &[Part], &[Part], Alias); 6] = [
     ("(fp + 4), v3", FP_4, &[Virt(3)], Alias::Maybe),
-    ("(fp + 4), (fp + 5)", FP_4, &[Fp, Num(5), Plus], Alias::Apart),
+    (
+        "(fp + 4), (fp + 5)",
+        FP_4,
+        &[Fp, Num(5), Plus],
+        Alias::Apart,
+    ),
     ("(fp + 4), (fp + 4)", FP_4, FP_4, Alias::Same),
     ("fp, (fp + 4)", &[Fp], FP_4, Alias::Apart),
-    ("(fp + 4), (v3 + 4)", FP_4, &[Virt(3), Num(4), Plus], Alias::Maybe),
+    (
+        "(fp + 4), (v3 + 4)",
+        FP_4,
+        &[Virt(3), Num(4), Plus],
+        Alias::Maybe,
+    ),
     ("4, (fp + 4)", &[Num(4)], FP_4, Alias::Maybe),
 ];
 

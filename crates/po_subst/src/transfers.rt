@@ -86,7 +86,12 @@ fn forward_stored(
 }
 
 /// What a branch on cc becomes: a branch on what the first instruction compares, where it does.
-fn forward_cc(alloc: Global, a: &Instr, rel: Rel, to: Label) -> Result<Option<Transfer>, OutOfMemory>
+fn forward_cc(
+    alloc: Global,
+    a: &Instr,
+    rel: Rel,
+    to: Label,
+) -> Result<Option<Transfer>, OutOfMemory>
     ensures { IfOk result (λ kept. moves_of (option_to_list kept) ≡ (forward_branch words plainly (cc_of (instr_of a.now)) rel to).got) }
 {
     match compared(a) {
