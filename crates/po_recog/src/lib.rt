@@ -1,7 +1,8 @@
-//! Which entry of a machine an instruction fits.
+//! Which entry of a machine an instruction fits (docs/DESCRIPTION.md, "What fits").
 //!
-//! `answer` has what is answered; `slots` has the ten operands that are filled on the way, and `walk` the way through a pattern and
-//! an instruction together.
+//! `answer` has what is answered, and `entries` tries the entries in order: `heads` compares what costs nothing, and then `walk` goes
+//! through the pattern and the instruction together and fills the ten operands, one by one in `slots`. It stops at the first part that
+//! doesn't fit. One walk says what the definition says in two steps: the structure, and then the questions.
 #![tactic(auto)]
 
 mod answer;
