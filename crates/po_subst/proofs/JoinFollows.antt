@@ -99,8 +99,8 @@ module _ {J K L M R Q S T : Type 0} (j : Kind J) (k : Kind K) (f : J → K) (g :
   in_order-map ms =
       rw (filter-map onto is_set is_set is_set-map ms, filter-map onto is_cc is_cc is_cc-map ms, filter-map onto is_store is_store is_store-map ms, filter-map onto is_control is_control is_control-map ms)
       (sym (map-append onto (filter is_set ms ++ filter is_cc ms ++ filter is_store ms) (filter is_control ms)
-        ∙ ap (λ xs. xs ++ map onto (filter is_control ms)) (map-append onto (filter is_set ms ++ filter is_cc ms) (filter is_store ms)
-        ∙ ap (λ xs. xs ++ map onto (filter is_store ms)) (map-append onto (filter is_set ms) (filter is_cc ms)))))
+      ∙ ap (λ xs. xs ++ map onto (filter is_control ms)) (map-append onto (filter is_set ms ++ filter is_cc ms) (filter is_store ms)
+      ∙ ap (λ xs. xs ++ map onto (filter is_store ms)) (map-append onto (filter is_set ms) (filter is_cc ms)))))
 
   listed-map : (ms : List (Move J L R S)) → listed (map onto ms) ≡ joint_map (listed ms)
   listed-map [] = refl
