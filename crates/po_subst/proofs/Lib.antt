@@ -6,3 +6,4 @@ pub mod Steps
 pub mod Kept
 pub mod InOrder
 pub mod ForwardFollows
+pub mod JoinFollows
