@@ -10,6 +10,7 @@ use Rattle.po_lines.specs.Forms.{says_nothing, no_more, name_alone}
 use Rattle.po_lines.specs.Leaves.{same}
 use Rattle.po_lines.specs.Lines.{Numbered, lines_behind, line_behind}
 use Rattle.po_lines.specs.NameList.{has}
+use Rattle.po_lines.specs.Reading.{read_each}
 use Rattle.po_lines.specs.Words.{Placed, line_words}
 use Rattle.po_ir.specs.declared.begun.Begun.{Begun}
 use Rattle.po_ir.specs.declared.state.State.{State}
@@ -106,13 +107,6 @@ step s l = do
   ws ← at_line l.number (line_words l.bytes)
   words_line l.number s ws (length l.bytes + 1)
 
--- the lines in order
-unfoldable pub reading : Sofar → List Numbered → Result Sofar TextFault
-reading s [] = Ok s
-reading s (l ∷ ls) = do
-  t ← step s l
-  reading t ls
-
 abbrev pub nothing_yet : Sofar
 nothing_yet = record { units = []; inside = None }
 
@@ -124,7 +118,7 @@ finish line us (Some u) = Err (text_fault line 1 kind.Word)
 -- the units that these lines write, or their first fault; `line` is the number of the line behind the last
 unfoldable pub units_in : List Numbered → ℕ → Result (List Unit) TextFault
 units_in ls line = do
-  s ← reading nothing_yet ls
+  s ← read_each step nothing_yet ls
   finish line s.units s.inside
 
 -- the units of a text from a place on, or the first fault

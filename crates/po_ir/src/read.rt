@@ -4,6 +4,7 @@ ghost use Rattle.std.specs.Prelude.{◌≡◌, ◌≤◌, ◌+◌, ◌<◌, ◌^
 ghost use Rattle.std.specs.Option.{option_map};
 ghost use Rattle.po_lines.specs.Faults.{Gets};
 ghost use Rattle.po_lines.specs.Lines.{line_of};
+ghost use Rattle.po_lines.specs.Reading.{read_each};
 ghost use Rattle.po_lines.specs.Words.{seen};
 ghost use Rattle.po_ir.specs.Reading as reading;
 ghost use Rattle.po_ir.specs.Reading.{IsState, state_shown};
@@ -207,7 +208,7 @@ fn step(alloc: Global, state: State, line: &Line) -> Result<State, TextRefusal>
 
 /// The lines that are ahead, up to the end of the text.
 fn read_lines(alloc: Global, lines: &mut Lines) -> Result<State, TextRefusal>
-    ensures gets { Gets state_shown result (reading.reading reading.nothing_yet lines.old.lines) }
+    ensures gets { Gets state_shown result (read_each reading.step reading.nothing_yet lines.old.lines) }
     ensures number { IfOk result (λ _. lines.new.line ≡ lines.old.line + length lines.old.lines) }
 {
     let mut state = State {

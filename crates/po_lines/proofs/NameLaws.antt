@@ -1,6 +1,6 @@
 -- A name is read as itself, and what is read as a name is one.
 use Rattle.std.proofs.Common.{◌≡◌, ℕ, List, Bool, true, false, Result, Ok, Err, refl, sym, subst, ◌⊎◌, inl, inr}
-use Rattle.po_ir.specs.Names.{is_name}
+use Rattle.po_name.specs.Names.{is_name}
 use Rattle.po_lines.specs.declared.fault.LineFault.{LineFault}
 use Rattle.po_lines.specs.Words.{Placed}
 use Rattle.po_lines.specs.Leaves.{is_name_text, name_in, keyword_in, same}
