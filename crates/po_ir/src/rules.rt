@@ -1,6 +1,7 @@
 //! What an operation does to the stack, to the block and to the labels, and the fault that it decides.
 
-ghost use Rattle.std.specs.Prelude.{◌≡◌, ◌≤◌, ◌+◌, ◌++◌, false, IfOk, IfNone, find};
+ghost use Rattle.std.specs.Prelude.{◌≡◌, ◌≤◌, ◌+◌, ◌++◌, false, IfOk, IfNone, find, nat_eq};
+ghost use Rattle.std.specs.List.{list_any};
 ghost use Rattle.std.specs.Option.{option_copied};
 ghost use Rattle.po_ir.specs.Ops as ops;
 ghost use Rattle.po_ir.specs.Faults as faults;
@@ -87,7 +88,14 @@ fn has_args(count: u8, args: &[u8]) -> bool
 fn has_arg(number: u8, count: u8, args: &[u8]) -> bool
     ensures { result ≡ faults.has_arg count args.now number }
 {
-    count <= number || args.iter().any(|arg| number == *arg)
+    count <= number || is_set(number, args)
+}
+
+/// Whether this argument is set.
+fn is_set(number: u8, args: &[u8]) -> bool
+    ensures { result ≡ list_any (nat_eq number) args.now }
+{
+    args.iter().any(|arg| number == *arg)
 }
 
 /// How many arguments have to be set before the operation.
