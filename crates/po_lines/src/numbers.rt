@@ -1,6 +1,6 @@
 //! A word as a number within bounds. It is first asked whether the word is a number at all, and then for the bounds.
 
-ghost use Rattle.std.specs.Prelude.{◌≡◌, ◌≤ℤ◌, pos, negsuc, IfOk};
+ghost use Rattle.std.specs.Prelude.{◌≡◌, ◌≤◌, ◌≤ℤ◌, pos, negsuc, IfOk};
 ghost use Rattle.po_word.specs.Words.{word_of};
 ghost use Rattle.po_lines.specs.Faults.{Gives};
 ghost use Rattle.po_lines.specs.Leaves.{number_in, word_number_in, signed_number_in, small_number_in};
@@ -72,7 +72,8 @@ fn narrow(number: i64) -> i32
 /// The word as a number from 0 to `most`. Takes no memory.
 #[tactic(auto, unfolding(crate::specs::Leaves::small_number_in))]
 pub fn small_number(word: &Word, most: u32) -> Result<u32, LineError>
-    ensures { Gives (λ n. n) result (small_number_in most (seen word.now)) }
+    ensures gives { Gives (λ n. n) result (small_number_in most (seen word.now)) }
+    ensures within { IfOk result (λ n. n ≤ most) }
 {
     let number = number_between(word, 0, i64::from(most))?;
     Ok(number as u32)
