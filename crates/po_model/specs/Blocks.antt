@@ -1,6 +1,5 @@
 -- A code as plain blocks, and which block may be next.
 use Rattle.std.specs.Prelude.{ℕ, zero, suc, ◌≡◌, ◌==◌, nat_lt, Bool, true, false, ◌||◌, if◌then◌else◌, List, [], ◌∷◌, map, length, All, Option, Some, None}
-use Rattle.std.specs.Option.{option_map}
 use Rattle.po_term.specs.declared.term.Sym.{Sym}
 use Rattle.po_term.specs.declared.term.Label.{Label}
 use Rattle.po_term.specs.Terms.{Place}
@@ -56,10 +55,14 @@ abbrev pub has_label : Label → Option Label → Bool
 has_label l None = false
 has_label l (Some m) = l.0 == m.0
 
+-- the first of these blocks, numbered from n on, that has the label l
+abbrev pub block_from : ℕ → List PlainBlock → Label → Option ℕ
+block_from n [] l = None
+block_from n (x ∷ xs) l = if has_label l x.label then Some n else block_from (suc n) xs l
+
 -- the block of a label: the first one that has it
 abbrev pub block_with : List PlainBlock → Label → Option ℕ
-block_with [] l = None
-block_with (x ∷ xs) l = if has_label l x.label then Some 0 else option_map suc (block_with xs l)
+block_with bs l = block_from 0 bs l
 
 -- where a control transfer may lead by its label
 abbrev pub target_by : List PlainBlock → Option (Ending ℕ Place Sym) → Option ℕ

@@ -91,8 +91,11 @@ module _ (code : List PlainBlock) where
   ReadOn v p [] = reads_at p.rest v ≡ true
   ReadOn v p (q ∷ qs) = (sets_at p.rest v ≡ false) × Follows p.block p.rest q × ReadOn v q qs
 
+  abbrev pub IsRead : Var → Point → Type 0
+  IsRead v p = (path : List Point) × ReadOn v p path
+
   abbrev pub IsLive : Var → Point → Type 0
-  IsLive v p = (v ≡ Reg Fp) ⊎ ((path : List Point) × ReadOn v p path)
+  IsLive v p = (v ≡ Reg Fp) ⊎ IsRead v p
 
   -- v is live after the instruction i of the block b
   abbrev pub LiveAfter : ℕ → ℕ → Var → Type 0
