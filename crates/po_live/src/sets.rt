@@ -80,12 +80,11 @@ fn remove_reg(live: &mut Live, r: Reg)
 }
 
 /// A set that holds what the other does.
-pub fn copy(alloc: Global, live: &Live) -> Result<Live, OutOfMemory>
+pub fn copy(live: &Live) -> Result<Live, OutOfMemory>
     ensures { IfOk result (λ c. (q : Variable) → holds c q ≡ holds live.now q) }
 {
-    let mut regs = BTreeSet::new(alloc);
-    for r in &live.regs {
-        regs.insert(*r)?;
+    match live.regs.clone() {
+        Ok(regs) => Ok(Live { regs, cc: live.cc }),
+        Err(_) => Err(OutOfMemory),
     }
-    Ok(Live { regs, cc: live.cc })
 }

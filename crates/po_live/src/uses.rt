@@ -2,7 +2,7 @@
 ghost use Rattle.std.specs.Prelude.{◌≡◌, ℕ, OnOk, IfOk, not, true, false, ◌||◌, ◌&&◌, map};
 ghost use Rattle.std.specs.List.{list_any};
 ghost use Rattle.po_term.specs.Terms.{tree_of};
-ghost use Rattle.po_term.specs.Moves.{move_of, instr_of, instrs_of};
+ghost use Rattle.po_term.specs.Moves.{move_of, moves_of, instr_of, instrs_of};
 ghost use Rattle.po_model.specs.declared.var.Var.{Var as Variable};
 ghost use Rattle.po_model.specs.LiveSets.{holds};
 ghost use Rattle.po_model.specs.LiveAfter.{is_arg_of, term_reads, move_reads, move_sets, reads, sets};
@@ -88,7 +88,7 @@ fn unset(live: &mut Live, t: &Transfer)
 }
 
 fn read_all(live: &mut Live, xs: &[Transfer]) -> Result<(), OutOfMemory>
-    ensures { OnOk result ((q : Variable) → holds live.new q ≡ (list_any (λ t. move_reads (move_of t) q) xs.now || holds live.old q)) }
+    ensures { OnOk result ((q : Variable) → holds live.new q ≡ (reads (moves_of xs.now) q || holds live.old q)) }
 {
     for t in xs {
         read(live, t)?;
@@ -97,7 +97,7 @@ fn read_all(live: &mut Live, xs: &[Transfer]) -> Result<(), OutOfMemory>
 }
 
 fn unset_all(live: &mut Live, xs: &[Transfer])
-    ensures { (q : Variable) → holds live.new q ≡ (not (list_any (λ t. move_sets (move_of t) q) xs.now) && holds live.old q) }
+    ensures { (q : Variable) → holds live.new q ≡ (not (sets (moves_of xs.now) q) && holds live.old q) }
 {
     for t in xs {
         unset(live, t);
@@ -143,7 +143,7 @@ fn mark(live: &mut Live, t: &Transfer) -> Result<(), OutOfMemory>
 }
 
 fn mark_all(live: &mut Live, xs: &[Transfer]) -> Result<(), OutOfMemory>
-    ensures { OnOk result ((q : Variable) → holds live.new q ≡ (list_any (λ t. move_sets (move_of t) q) xs.now || holds live.old q)) }
+    ensures { OnOk result ((q : Variable) → holds live.new q ≡ (sets (moves_of xs.now) q || holds live.old q)) }
 {
     for t in xs {
         mark(live, t)?;
@@ -153,7 +153,7 @@ fn mark_all(live: &mut Live, xs: &[Transfer]) -> Result<(), OutOfMemory>
 
 /// Puts in what instructions set.
 pub fn mark_sets(live: &mut Live, xs: &[Instr]) -> Result<(), OutOfMemory>
-    ensures { OnOk result ((q : Variable) → holds live.new q ≡ (list_any (λ x. sets (instr_of x) q) xs.now || holds live.old q)) }
+    ensures { OnOk result ((q : Variable) → holds live.new q ≡ (sets_any (instrs_of xs.now) q || holds live.old q)) }
 {
     for x in xs {
         mark_all(live, &x.xs)?;
