@@ -1,5 +1,6 @@
 //! What is live in code.
 #![tactic(auto)]
 
+mod graph;
 mod sets;
 mod uses;
