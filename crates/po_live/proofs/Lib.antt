@@ -1,3 +1,4 @@
 pub mod Keys
 pub mod Moved
 pub mod Preds
+pub mod Graphs

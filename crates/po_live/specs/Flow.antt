@@ -1,5 +1,5 @@
 -- How what is live flows from block to block.
-use Rattle.std.specs.Prelude.{ℕ, zero, suc, ◌==◌, Bool, true, false, ◌||◌, ◌&&◌, List, [], ◌∷◌, Option, Some, None}
+use Rattle.std.specs.Prelude.{ℕ, zero, suc, nat_lt, if◌then◌else◌, ◌==◌, Bool, true, false, ◌||◌, ◌&&◌, List, [], ◌∷◌, Option, Some, None}
 use Rattle.std.specs.List.{list_any}
 use Rattle.std.specs.Global.{Vec}
 use Rattle.std.specs.BTreeMap.{BTreeMap, get}
@@ -12,6 +12,7 @@ use Rattle.po_model.specs.declared.pair.Live.{Live}
 use Rattle.po_model.specs.declared.var.Var.{Var}
 use Rattle.po_live.specs.declared.graph.Exit.{Exit}
 use Rattle.po_live.specs.declared.graph.Exit.TheVariants as exit
+use Rattle.po_model.specs.Blocks.{is_at}
 use Rattle.po_live.specs.Sets.{var_eq}
 
 abbrev pub exit_by : Option (Ending ℕ Place Sym) → Exit
@@ -40,3 +41,10 @@ exit_goes_on exit.Next = true
 exit_goes_on (exit.Goto l) = false
 exit_goes_on (exit.Branch l) = true
 exit_goes_on exit.Leave = false
+
+abbrev pub exit_next : Exit → ℕ → ℕ → Option ℕ
+exit_next exit b n = if nat_lt (suc b) n then (if exit_goes_on exit then Some (suc b) else None) else None
+
+-- whether the exit of the block b, of n blocks, leads to the block q
+abbrev pub exit_leads : BTreeMap ℕ ℕ → ℕ → Exit → ℕ → ℕ → Bool
+exit_leads first n exit b q = is_at q (exit_target first exit) || is_at q (exit_next exit b n)

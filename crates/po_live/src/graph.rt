@@ -5,7 +5,7 @@ ghost use Rattle.std.specs.BTreeMap.{get};
 ghost use Rattle.po_term.specs.declared.term.Label.{Label as Mark};
 ghost use Rattle.po_term.specs.Moves.{moves_of, instrs_of};
 ghost use Rattle.po_model.specs.Blocks.{block_of, ending_of, block_ending, block_with, target_by, goes_on, has_label, is_at, leads};
-ghost use Rattle.po_live.specs.Flow.{exit_by, pred_at, exit_target, exit_goes_on};
+ghost use Rattle.po_live.specs.Flow.{exit_by, pred_at, exit_target, exit_next, exit_leads};
 
 use po_model::Block;
 use po_term::{Cond, Instr, Label, Transfer};
@@ -77,7 +77,8 @@ fn put_label(first: &mut Labels, label: Option<Label>, b: usize) -> Result<(), O
 
 /// The first block of each label.
 fn labels(alloc: Global, blocks: &[Block]) -> Result<Labels, OutOfMemory>
-    ensures { IfOk result (λ first. (l : Mark) → get nat_cmp first l.0 ≡ block_with (map block_of blocks.now) l) }
+    ensures table { IfOk result (λ first. (l : Mark) → get nat_cmp first l.0 ≡ block_with (map block_of blocks.now) l) }
+    ensures below { IfOk result (λ first. (k q : ℕ) → get nat_cmp first k ≡ Some q → q < length blocks.now) }
 {
     let mut first = BTreeMap::new(alloc);
     let mut b = blocks.len();
@@ -103,7 +104,7 @@ fn target(first: &Labels, exit: Exit) -> Option<usize>
 /// The block behind b, of n blocks, where it may follow and is there.
 fn next(exit: Exit, b: usize, n: usize) -> Option<usize>
     requires { b < n }
-    ensures { result ≡ (if nat_lt (suc b) n then (if exit_goes_on exit then Some (suc b) else None) else None) }
+    ensures { result ≡ exit_next exit b n }
 {
     if b + 1 < n && matches!(exit, Exit::Next | Exit::Branch(_)) {
         Some(b + 1)
@@ -155,6 +156,32 @@ fn empty_lists(alloc: Global, n: usize) -> Result<Vec<Vec<usize>>, OutOfMemory>
     let mut preds = Vec::new(alloc);
     for made in 0..n {
         push_list(&mut preds, Vec::new(alloc))?;
+    }
+    Ok(preds)
+}
+
+/// Writes the block b into the lists of the blocks that may follow it.
+fn add_edges(preds: &mut [Vec<usize>], first: &Labels, block: &Block, b: usize) -> Result<(), OutOfMemory>
+    requires here { b < length preds.old }
+    requires below { (k q : ℕ) → get nat_cmp first.now k ≡ Some q → q < length preds.old }
+    ensures { OnOk result ((q p : ℕ) → pred_at preds.new q p
+        ≡ ((exit_leads first.now (length preds.old) (exit_by (block_ending (instrs_of block.now.instrs.items))) b q && b == p) || pred_at preds.old q p)) }
+{
+    let exit = block_exit(&block.instrs);
+    let n = preds.len();
+    add_pred(preds, target(first, exit), b)?;
+    add_pred(preds, next(exit, b, n), b)
+}
+
+/// For each block those that it may follow.
+pub fn predecessors(alloc: Global, blocks: &[Block]) -> Result<Vec<Vec<usize>>, OutOfMemory>
+    ensures len { IfOk result (λ preds. length preds.items ≡ length blocks.now) }
+    ensures leads { IfOk result (λ preds. (q p : ℕ) → pred_at preds.items q p ≡ (nat_lt p (length blocks.now) && leads (map block_of blocks.now) p q)) }
+{
+    let first = labels(alloc, blocks)?;
+    let mut preds = empty_lists(alloc, blocks.len())?;
+    for b in 0..blocks.len() {
+        add_edges(&mut preds, &first, &blocks[b], b)?;
     }
     Ok(preds)
 }
