@@ -2,3 +2,6 @@ pub mod Keys
 pub mod Moved
 pub mod Preds
 pub mod Graphs
+pub mod Paths
+pub mod Outs
+pub mod Fuel

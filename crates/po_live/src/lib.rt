@@ -3,4 +3,5 @@
 
 mod graph;
 mod sets;
+mod solve;
 mod uses;
