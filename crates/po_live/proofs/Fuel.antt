@@ -12,7 +12,7 @@ use Rattle.po_model.specs.declared.var.Var.TheVariants.{Reg, Cc}
 use Rattle.po_live.specs.Sets.{var_eq}
 use Rattle.po_live.specs.Due.{is_among, missing, missing_below}
 
-eq_refl : (n : ℕ) → (n == n) ≡ true
+pub eq_refl : (n : ℕ) → (n == n) ≡ true
 eq_refl n = grind (arith, nat_tests)
 
 pub reg_eq_true : (a b : Register) → reg_eq a b ≡ true → a ≡ b

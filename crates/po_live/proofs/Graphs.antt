@@ -66,7 +66,7 @@ one_more_test true false false false h = refl
 one_more_test false l true y h = refl
 one_more_test false l false y h = refl
 
-one_more : (b p : ℕ) (x y : Bool) → ((b == p) ≡ true → x ≡ y) → ((x && b == p) || (nat_lt p b && y)) ≡ (nat_lt p (b + 1) && y)
+pub one_more : (b p : ℕ) (x y : Bool) → ((b == p) ≡ true → x ≡ y) → ((x && b == p) || (nat_lt p b && y)) ≡ (nat_lt p (b + 1) && y)
 one_more b p x y h = one_more_test (b == p) (nat_lt p b) x y h ∙ ap (λ t. t && y) (sym (lt_more b p))
 
 -- the edges of one more block

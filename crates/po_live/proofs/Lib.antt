@@ -5,3 +5,6 @@ pub mod Graphs
 pub mod Paths
 pub mod Outs
 pub mod Fuel
+pub mod Spreads
+pub mod Solved
+pub mod After

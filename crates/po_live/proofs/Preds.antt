@@ -54,3 +54,9 @@ ending_last (x ∷ []) zero d h = refl
 ending_last (x ∷ []) (suc n) d h = absurd (omega arith)
 ending_last (x ∷ y ∷ ys) zero d h = absurd (omega arith)
 ending_last (x ∷ y ∷ ys) (suc n) d h = ending_last (y ∷ ys) n d (omega arith)
+
+-- the list at a place
+pub pred_get : (vs : List (Vec ℕ)) (q : ℕ) (d : Vec ℕ) (p : ℕ) → q < length vs → list_any (λ x. x == p) (slice_index_or vs q d).items ≡ pred_at vs q p
+pred_get [] q d p h = absurd (omega arith)
+pred_get (x ∷ xs) zero d p h = refl
+pred_get (x ∷ xs) (suc q) d p h = pred_get xs q d p (omega arith)

@@ -59,12 +59,12 @@ fn read(live: &mut Live, t: &Transfer) -> Result<(), OutOfMemory>
         Transfer::If(Cond::Cc, _, _) => add(live, Var::Cc),
         Transfer::If(Cond::Two(x, y), _, _) => read_two(live, x, y),
         Transfer::Call(_, n) => {
-            add(live, Var::Reg(Reg::Fp))?;
-            read_args(live, *n)
+            read_args(live, *n)?;
+            add(live, Var::Reg(Reg::Fp))
         }
         Transfer::Ret => {
-            add(live, Var::Reg(Reg::Fp))?;
-            add(live, Var::Reg(Reg::Rv))
+            add(live, Var::Reg(Reg::Rv))?;
+            add(live, Var::Reg(Reg::Fp))
         }
     }
 }
