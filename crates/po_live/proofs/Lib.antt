@@ -7,4 +7,4 @@ pub mod Outs
 pub mod Fuel
 pub mod Spreads
 pub mod Solved
-pub mod After
+pub mod Instrs

@@ -33,10 +33,10 @@ lt_false a b e = grind (arith, nat_tests)
 false_lt : (a b : ℕ) → b ≤ a → nat_lt a b ≡ false
 false_lt a b h = grind (arith, nat_tests)
 
-or_left : (a b : Bool) → a ≡ true → (a || b) ≡ true
+pub or_left : (a b : Bool) → a ≡ true → (a || b) ≡ true
 or_left a b e = rw e refl
 
-or_right : (a b : Bool) → b ≡ true → (a || b) ≡ true
+pub or_right : (a b : Bool) → b ≡ true → (a || b) ≡ true
 or_right true b e = refl
 or_right false b e = e
 
@@ -54,7 +54,7 @@ not_true false e = refl
 not_false : (a : Bool) → a ≡ false → not a ≡ true
 not_false a e = rw e refl
 
-instrs_beyond : (bs : List PlainBlock) (b : ℕ) → length bs ≤ b → instrs_at bs b ≡ []
+pub instrs_beyond : (bs : List PlainBlock) (b : ℕ) → length bs ≤ b → instrs_at bs b ≡ []
 instrs_beyond [] b h = refl
 instrs_beyond (x ∷ xs) zero h = absurd (omega arith)
 instrs_beyond (x ∷ xs) (suc b) h = instrs_beyond xs b (omega arith)

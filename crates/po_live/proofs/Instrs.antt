@@ -2,13 +2,14 @@
 use Rattle.std.proofs.Common.{◌≡◌, ℕ, zero, suc, ◌+◌, ◌<◌, ◌≤◌, Bool, true, false, List, [], ◌∷◌, ◌++◌, length, drop, map, reverse, refl, sym, ◌∙◌, ap, subst, arith, slice_index_or}
 use Rattle.std.specs.Prelude.{not, ◌||◌, ◌&&◌, ◌↔◌, IsTrue}
 use Rattle.std.specs.Global.{Vec}
+use Rattle.std.proofs.lemmas.List.{reverse-append}
 use Rattle.std.proofs.lemmas.Bool.{true≢false, false≢true, or_cases}
 use mathlib.Core.Logic.{◌⊎◌, inl, inr}
 use Rattle.po_term.specs.declared.term.Reg.{Reg as Register}
 use Rattle.po_term.specs.declared.term.Reg.TheVariants.{Fp}
 use Rattle.po_term.specs.declared.transfer.Instr.{Instr}
 use Rattle.po_term.specs.Moves.{instrs_of}
-use Rattle.std.proofs.Math.Seq.{drop-cons}
+use Rattle.std.proofs.Common.{drop-cons}
 use Rattle.po_model.specs.declared.pair.Live.{Live}
 use Rattle.po_model.specs.declared.var.Var.{Var}
 use Rattle.po_model.specs.declared.var.Var.TheVariants.{Reg, Cc}
@@ -90,12 +91,8 @@ there_below (x ∷ xs) zero i h = omega arith
 there_below (x ∷ xs) (suc b) i h = let k = there_below xs b i h in omega arith
 
 -- one more instruction before the others
-pub after_more : (xs : List Instr) (i : ℕ) (d : Instr) (out live : Var → Bool) (all : Live) (ls : List Live) → i < length xs → ((q : Var) → live q ≡ back (instrs_of (drop (i + 1) xs)) out q) → ((q : Var) → holds all q ≡ (is_fp q || live q)) → AreAfter (instrs_of (drop (i + 1) xs)) out (reverse ls) → AreAfter (instrs_of (drop i xs)) out (reverse (ls ++ all ∷ []))
-after_more xs i d out live all ls h e f a =
-    rw (drop-cons xs i d, reverse-append ls (all ∷ [])) (λ q. f q ∙ ap (λ b. is_fp q || b) (e' q), a')
-  where
-    e' : (q : Var) → live q ≡ back (instrs_of (drop (suc i) xs)) out q
-    e' = ?
-
-    a' : AreAfter (instrs_of (drop (suc i) xs)) out (reverse ls)
-    a' = ?
+pub after_more : (xs : List Instr) (i j : ℕ) (d : Instr) (out live : Var → Bool) (all : Live) (ls : List Live) → j ≡ suc i → i < length xs → ((q : Var) → live q ≡ back (instrs_of (drop j xs)) out q) → ((q : Var) → holds all q ≡ (is_fp q || live q)) → AreAfter (instrs_of (drop j xs)) out (reverse ls) → AreAfter (instrs_of (drop i xs)) out (reverse (ls ++ all ∷ []))
+after_more xs i j d out live all ls p h e f a =
+    let e2 : (q : Var) → live q ≡ back (instrs_of (drop (suc i) xs)) out q = subst (λ (k : ℕ). (q : Var) → live q ≡ back (instrs_of (drop k xs)) out q) p e in
+    let a2 : AreAfter (instrs_of (drop (suc i) xs)) out (reverse ls) = subst (λ (k : ℕ). AreAfter (instrs_of (drop k xs)) out (reverse ls)) p a in
+    rw (drop-cons xs i d, reverse-append ls (all ∷ [])) (λ q. f q ∙ ap (λ b. is_fp q || b) (e2 q), a2)
