@@ -2,21 +2,25 @@
 use Rattle.std.proofs.Common.{◌≡◌, ℕ, zero, suc, ◌+◌, ◌<◌, ◌≤◌, Bool, true, false, List, [], ◌∷◌, ◌++◌, length, drop, map, reverse, refl, sym, ◌∙◌, ap, subst, arith, slice_index_or}
 use Rattle.std.specs.Prelude.{not, ◌||◌, ◌&&◌, ◌↔◌, IsTrue}
 use Rattle.std.specs.Global.{Vec}
-use Rattle.std.proofs.lemmas.List.{reverse-append}
+use Rattle.std.proofs.lemmas.List.{reverse-append, length-map}
+use Rattle.po_model.specs.declared.code.Block.{Block}
 use Rattle.std.proofs.lemmas.Bool.{true≢false, false≢true, or_cases}
 use mathlib.Core.Logic.{◌⊎◌, inl, inr}
 use Rattle.po_term.specs.declared.term.Reg.{Reg as Register}
 use Rattle.po_term.specs.declared.term.Reg.TheVariants.{Fp}
 use Rattle.po_term.specs.declared.transfer.Instr.{Instr}
-use Rattle.po_term.specs.Moves.{instrs_of}
+use Rattle.po_term.specs.Moves.{instr_of, instrs_of}
 use Rattle.std.proofs.Common.{drop-cons}
 use Rattle.po_model.specs.declared.pair.Live.{Live}
 use Rattle.po_model.specs.declared.var.Var.{Var}
 use Rattle.po_model.specs.declared.var.Var.TheVariants.{Reg, Cc}
-use Rattle.po_model.specs.Blocks.{PlainInstr, PlainBlock, instrs_at}
-use Rattle.po_model.specs.LiveAfter.{IsRead, IsLive, LiveAfter}
+use Rattle.po_model.specs.Blocks.{PlainInstr, PlainBlock, block_of, instrs_at}
+use Rattle.po_model.specs.LiveAfter.{reads, sets, IsRead, IsLive, LiveAfter}
 use Rattle.po_model.specs.LiveSets.{holds, holds_at, lives_at}
 use Rattle.po_live.specs.Sets.{is_fp, back, AreAfter}
+use mathlib.Core.Path.{fun_ext}
+use Rattle.po_live.proofs.Graphs.{instrs_there}
+use Rattle.po_live.proofs.Outs.{set_get}
 use Rattle.po_live.proofs.Fuel.{var_eq_true}
 use Rattle.po_live.proofs.Solved.{or_left, or_right, instrs_beyond}
 
@@ -96,3 +100,28 @@ after_more xs i j d out live all ls p h e f a =
     let e2 : (q : Var) → live q ≡ back (instrs_of (drop (suc i) xs)) out q = subst (λ (k : ℕ). (q : Var) → live q ≡ back (instrs_of (drop k xs)) out q) p e in
     let a2 : AreAfter (instrs_of (drop (suc i) xs)) out (reverse ls) = subst (λ (k : ℕ). AreAfter (instrs_of (drop k xs)) out (reverse ls)) p a in
     rw (drop-cons xs i d, reverse-append ls (all ∷ [])) (λ q. f q ∙ ap (λ b. is_fp q || b) (e2 q), a2)
+
+-- what is live after each instruction of a code
+pub lives_are : (blocks : List Block) (out : List Live) (after : List (Vec Live)) → ((b : ℕ) (xs : List PlainInstr) (q : Var) → (back xs (holds_at out b) q ≡ true) ↔ IsRead (map block_of blocks) q (record { block = b; rest = xs })) → ((b : ℕ) → b < length blocks → AreAfter (instrs_at (map block_of blocks) b) (holds_at out b) (lives_at after b)) → (b i : ℕ) (v : Var) → i < length (instrs_at (map block_of blocks) b) → IsTrue (holds_at (lives_at after b) i v) ↔ LiveAfter (map block_of blocks) b i v
+lives_are blocks out after r a b i v h =
+    let there : b < length blocks = omega (arith, there_below (map block_of blocks) b i h, length-map blocks block_of) in
+    fp_or_read (map block_of blocks) b v (drop (suc i) (instrs_at (map block_of blocks) b)) (holds_at out b) (holds_at (lives_at after b) i v)
+      (after_at (instrs_at (map block_of blocks) b) (holds_at out b) (lives_at after b) (a b there) i v h)
+      (r b (drop (suc i) (instrs_at (map block_of blocks) b)) v)
+
+pub lengths_are : (blocks : List Block) (out : List Live) (after : List (Vec Live)) → length after ≡ length blocks → ((b : ℕ) → b < length blocks → AreAfter (instrs_at (map block_of blocks) b) (holds_at out b) (lives_at after b)) → (b : ℕ) → length (lives_at after b) ≡ length (instrs_at (map block_of blocks) b)
+lengths_are blocks out after e a = all_lengths (map block_of blocks) (holds_at out) after (e ∙ sym (length-map blocks block_of)) (λ b h. a b (omega (arith, h, length-map blocks block_of)))
+
+-- back through one more instruction
+pub live_more : (xs : List Instr) (i j : ℕ) (d : Instr) (out live new : Var → Bool) → j ≡ suc i → i < length xs → d ≡ slice_index_or xs i d → ((q : Var) → live q ≡ back (instrs_of (drop j xs)) out q) → ((q : Var) → new q ≡ (reads (instr_of d) q || (not (sets (instr_of d) q) && live q))) → (q : Var) → new q ≡ back (instrs_of (drop i xs)) out q
+live_more xs i j d out live new p h g e f q =
+    let e2 : live q ≡ back (instrs_of (drop (suc i) xs)) out q = ap (λ (k : ℕ). live q) p ∙ e q ∙ ap (λ (k : ℕ). back (instrs_of (drop k xs)) out q) p in
+    let cut : drop i xs ≡ d ∷ drop (suc i) xs = drop-cons xs i d h ∙ ap (λ (x : Instr). x ∷ drop (suc i) xs) (sym g) in
+    f q ∙ ap (λ b. reads (instr_of d) q || (not (sets (instr_of d) q) && b)) e2 ∙ sym (ap (λ (ys : List Instr). back (instrs_of ys) out q) cut)
+
+-- a block's instructions and its set, by their places
+pub after_there : (blocks : List Block) (outs : List Live) (b : ℕ) (d : Block) (l : Live) (is : List Instr) (ls : List Live) → b < length blocks → b < length outs → is ≡ (slice_index_or blocks b d).instrs.items → AreAfter (instrs_of is) (holds (slice_index_or outs b l)) ls → AreAfter (instrs_at (map block_of blocks) b) (holds_at outs b) ls
+after_there blocks outs b d l is ls h k e a =
+    let there : instrs_of is ≡ instrs_at (map block_of blocks) b = ap (λ (js : List Instr). instrs_of js) e ∙ sym (instrs_there blocks b d h) in
+    let held : holds (slice_index_or outs b l) ≡ holds_at outs b = fun_ext (λ v. set_get outs b l v k) in
+    subst (λ (xs : List PlainInstr). AreAfter xs (holds_at outs b) ls) there (subst (λ (f : Var → Bool). AreAfter (instrs_of is) f ls) held a)
