@@ -20,7 +20,7 @@ use Rattle.po_model.specs.LiveSets.{holds, holds_at, lives_at}
 use Rattle.po_live.specs.Sets.{is_fp, back, AreAfter}
 use mathlib.Core.Path.{fun_ext}
 use Rattle.po_live.proofs.Graphs.{instrs_there}
-use Rattle.po_live.proofs.Outs.{set_get}
+use Rattle.po_live.proofs.Outs.{set_at}
 use Rattle.po_live.proofs.Fuel.{var_eq_true}
 use Rattle.po_live.proofs.Solved.{or_left, or_right, instrs_beyond}
 
@@ -120,8 +120,19 @@ live_more xs i j d out live new p h g e f q =
     f q ∙ ap (λ b. reads (instr_of d) q || (not (sets (instr_of d) q) && b)) e2 ∙ sym (ap (λ (ys : List Instr). back (instrs_of ys) out q) cut)
 
 -- a block's instructions and its set, by their places
-pub after_there : (blocks : List Block) (outs : List Live) (b : ℕ) (d : Block) (l : Live) (is : List Instr) (ls : List Live) → b < length blocks → b < length outs → is ≡ (slice_index_or blocks b d).instrs.items → AreAfter (instrs_of is) (holds (slice_index_or outs b l)) ls → AreAfter (instrs_at (map block_of blocks) b) (holds_at outs b) ls
-after_there blocks outs b d l is ls h k e a =
+pub after_there : (blocks : List Block) (outs : List Live) (b : ℕ) (d : Block) (l : Live) (is : List Instr) (ls : List Live) → b < length blocks → b < length outs → is ≡ (slice_index_or blocks b d).instrs.items → l ≡ slice_index_or outs b l → AreAfter (instrs_of is) (holds l) ls → AreAfter (instrs_at (map block_of blocks) b) (holds_at outs b) ls
+after_there blocks outs b d l is ls h k e i a =
     let there : instrs_of is ≡ instrs_at (map block_of blocks) b = ap (λ (js : List Instr). instrs_of js) e ∙ sym (instrs_there blocks b d h) in
-    let held : holds (slice_index_or outs b l) ≡ holds_at outs b = fun_ext (λ v. set_get outs b l v k) in
+    let held : holds l ≡ holds_at outs b = fun_ext (λ v. set_at outs b l v k i) in
     subst (λ (xs : List PlainInstr). AreAfter xs (holds_at outs b) ls) there (subst (λ (f : Var → Bool). AreAfter (instrs_of is) f ls) held a)
+
+-- the same where the blocks and the sets were lent
+module _ (blocks lent lent2 : List Block) (out out2 : List Live) (after : List (Vec Live)) (p : lent ≡ blocks) (q : lent2 ≡ blocks) (o : out2 ≡ out) (a : (b : ℕ) → b < length lent2 → AreAfter (instrs_at (map block_of lent2) b) (holds_at out2 b) (lives_at after b)) where
+  after_lent : (b : ℕ) → b < length blocks → AreAfter (instrs_at (map block_of blocks) b) (holds_at out b) (lives_at after b)
+  after_lent = subst (λ (ls : List Live). (b : ℕ) → b < length blocks → AreAfter (instrs_at (map block_of blocks) b) (holds_at ls b) (lives_at after b)) o (subst (λ (bs : List Block). (b : ℕ) → b < length bs → AreAfter (instrs_at (map block_of bs) b) (holds_at out2 b) (lives_at after b)) q a)
+
+  pub code_lives : ((b : ℕ) (xs : List PlainInstr) (v : Var) → (back xs (holds_at out b) v ≡ true) ↔ IsRead (map block_of lent) v (record { block = b; rest = xs })) → (b i : ℕ) (v : Var) → i < length (instrs_at (map block_of blocks) b) → IsTrue (holds_at (lives_at after b) i v) ↔ LiveAfter (map block_of blocks) b i v
+  code_lives r = lives_are blocks out after (subst (λ (bs : List Block). (b : ℕ) (xs : List PlainInstr) (v : Var) → (back xs (holds_at out b) v ≡ true) ↔ IsRead (map block_of bs) v (record { block = b; rest = xs })) p r) after_lent
+
+  pub code_lengths : length after ≡ length lent2 → (b : ℕ) → length (lives_at after b) ≡ length (instrs_at (map block_of blocks) b)
+  code_lengths e = lengths_are blocks out after (e ∙ ap (λ (bs : List Block). length bs) q) after_lent

@@ -230,6 +230,16 @@ due_popped work left d e c q =
     ∙ list_any-append (λ (x : Due). x.block == c && var_eq x.var q) left (d ∷ [])
     ∙ or_turned (is_due left c q) (d.block == c && var_eq d.var q)
 
+pub due_here : (work left : List Due) (d : Due) → work ≡ left ++ d ∷ [] → is_due work d.block d.var ≡ true
+due_here work left d e = due_popped work left d e d.block d.var ∙ or_left (d.block == d.block && var_eq d.var d.var) (is_due left d.block d.var) (and_both (d.block == d.block) (var_eq d.var d.var) (eq_refl d.block) (var_eq_refl d.var))
+
+pub due_none : (work : List Due) → length work ≡ 0 → (c : ℕ) (q : Var) → is_due work c q ≡ false
+due_none [] e c q = refl
+due_none (d ∷ ds) e c q = absurd (omega arith)
+
+pub pred_below : (code : List PlainBlock) (here : ℕ) (preds : ℕ → Bool) → ((p : ℕ) → preds p ≡ (nat_lt p (length code) && leads code p here)) → (p : ℕ) → preds p ≡ true → p < length code
+pred_below code here preds are p e = lt_true p (length code) ((and_parts (nat_lt p (length code)) (leads code p here) (sym (are p) ∙ e)).0)
+
 module _ (blocks : List Block) where
   long : length (map block_of blocks) ≡ length blocks
   long = length-map blocks block_of
