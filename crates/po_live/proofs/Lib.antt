@@ -1,0 +1,10 @@
+pub mod Keys
+pub mod Moved
+pub mod Preds
+pub mod Graphs
+pub mod Paths
+pub mod Outs
+pub mod Fuel
+pub mod Spreads
+pub mod Solved
+pub mod Instrs

@@ -1,0 +1,53 @@
+-- A list of sets of which one is read or written.
+use mathlib.Core.Logic.{◌⊎◌, inl, inr}
+use Rattle.std.proofs.Common.{◌++◌, ◌+◌, ◌≡◌, ℕ, zero, suc, ◌<◌, Bool, true, false, List, [], ◌∷◌, length, refl, sym, ap, arith, slice_index_or, slice_set, ◌∙◌, Result, Ok, Err, OnOk, IfOk}
+use Rattle.std.specs.Prelude.{◌||◌, ◌&&◌, ◌==◌, not}
+use Rattle.po_model.specs.declared.pair.Live.{Live}
+use Rattle.po_model.specs.declared.var.Var.{Var}
+use Rattle.po_model.specs.LiveSets.{holds, holds_at}
+use Rattle.po_live.specs.Sets.{var_eq}
+use Rattle.po_live.proofs.Preds.{zero_suc, suc_zero, suc_suc}
+
+-- the set at a place
+pub set_get : (ls : List Live) (p : ℕ) (d : Live) (v : Var) → p < length ls → holds (slice_index_or ls p d) v ≡ holds_at ls p v
+set_get [] p d v h = absurd (omega arith)
+set_get (x ∷ xs) zero d v h = refl
+set_get (x ∷ xs) (suc p) d v h = set_get xs p d v (omega arith)
+
+pub set_at : (ls : List Live) (p : ℕ) (l : Live) (v : Var) → p < length ls → l ≡ slice_index_or ls p l → holds l v ≡ holds_at ls p v
+set_at ls p l v h e = ap (λ m. holds m v) e ∙ set_get ls p l v h
+
+-- one more in the set at a place
+pub set_put : (ls : List Live) (p : ℕ) (n : Live) (v : Var) → p < length ls → ((q : Var) → holds n q ≡ (var_eq v q || holds_at ls p q)) → (b : ℕ) (q : Var) → holds_at (slice_set ls p n) b q ≡ ((p == b && var_eq v q) || holds_at ls b q)
+set_put [] p n v h e b q = absurd (omega arith)
+set_put (x ∷ xs) zero n v h e zero q = e q
+set_put (x ∷ xs) zero n v h e (suc b) q = rw (zero_suc b) refl
+set_put (x ∷ xs) (suc p) n v h e zero q = rw (suc_zero p) refl
+set_put (x ∷ xs) (suc p) n v h e (suc b) q = rw (suc_suc p b) (set_put xs p n v (omega arith) e b q)
+
+-- one more set behind the others
+pub sets_below : (ls : List Live) (n : Live) (b : ℕ) (q : Var) → b < length ls → holds_at (ls ++ n ∷ []) b q ≡ holds_at ls b q
+sets_below [] n b q h = absurd (omega arith)
+sets_below (x ∷ xs) n zero q h = refl
+sets_below (x ∷ xs) n (suc b) q h = sets_below xs n b q (omega arith)
+
+pub set_behind : (ls : List Live) (n : Live) (q : Var) → holds_at (ls ++ n ∷ []) (length ls) q ≡ holds n q
+set_behind [] n q = refl
+set_behind (x ∷ xs) n q = set_behind xs n q
+
+pub sets_none : (ls : List Live) (n : Live) → ((q : Var) → holds n q ≡ false) → ((b : ℕ) (q : Var) → holds_at ls b q ≡ false) → (b : ℕ) (q : Var) → holds_at (ls ++ n ∷ []) b q ≡ false
+sets_none [] n e h zero q = e q
+sets_none [] n e h (suc b) q = refl
+sets_none (x ∷ xs) n e h zero q = h zero q
+sets_none (x ∷ xs) n e h (suc b) q = sets_none xs n e (λ c p. h (suc c) p) b q
+
+-- a fact of each of the sets below b, and of the one at b
+pub sets_more : (ls : List Live) (n : Live) (b : ℕ) (f : ℕ → Var → Bool) → length ls ≡ b → ((c : ℕ) (q : Var) → c < b → holds_at ls c q ≡ f c q) → ((q : Var) → holds n q ≡ f b q) → (c : ℕ) (q : Var) → c < b + 1 → holds_at (ls ++ n ∷ []) c q ≡ f c q
+sets_more ls n b f e below here c q h = go (cases c b h)
+  where
+    cases : (c b : ℕ) → c < b + 1 → (c ≡ b) ⊎ (c < b)
+    cases c b h = grind arith
+
+    go : (c ≡ b) ⊎ (c < b) → holds_at (ls ++ n ∷ []) c q ≡ f c q
+    go (inl p) = ap (λ k. holds_at (ls ++ n ∷ []) k q) (p ∙ sym e) ∙ set_behind ls n q ∙ here q ∙ ap (λ k. f k q) (sym p)
+    go (inr k) = sets_below ls n c q (omega arith) ∙ below c q k

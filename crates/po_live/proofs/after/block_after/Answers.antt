@@ -1,0 +1,14 @@
+use Rattle.std.proofs.Common.{◌≡◌, ℕ, suc, ◌-◌, ◌<◌, length, arith}
+use Rattle.po_model.specs.LiveSets.{holds}
+use Rattle.po_live.proofs.Instrs.{after_more, live_more}
+use Rattle.po_live.proofs.after.block_after.Goals as goal
+
+pub loop-i-preserved : goal.loop-i-preserved
+loop-i-preserved c =
+    let next : c.loop-i.i ≡ suc (c.loop-i.i - 1) = omega arith in
+    let here : c.loop-i.i - 1 < length c.args.xs.now = omega arith in
+    record {
+      within = omega arith;
+      live = live_more c.args.xs.now (c.loop-i.i - 1) c.loop-i.i c.index-xs-i.result (holds c.args.out.now) (holds c.loop-i.live) (holds c.step.new.live) next here c.index-xs-i.is c.loop-i.invariant.live c.in_ok-step.ensures;
+      after = rw (c.in_ok-push_live.ensures) (after_more c.args.xs.now (c.loop-i.i - 1) c.loop-i.i c.index-xs-i.result (holds c.args.out.now) (holds c.loop-i.live) c.in_ok-with_fp.field-0 c.loop-i.after.items next here c.loop-i.invariant.live c.in_ok-with_fp.ensures c.loop-i.invariant.after);
+    }

@@ -1,0 +1,46 @@
+//! What is live after each instruction of a code (docs/OPTIMISER.md, "Liveness").
+//!
+//! `graph` says which block may follow which; `uses` walks back through instructions; `solve` finds what is live at the ends of
+//! blocks, and only that goes from block to block; `after` then walks back through each block once. `sets` has the sets themselves.
+#![tactic(auto)]
+
+ghost use Rattle.std.specs.Prelude.{◌≡◌, ◌<◌, ◌↔◌, ℕ, IsTrue, IfOk, length};
+ghost use Rattle.po_model.specs.declared.var.Var.{Var};
+ghost use Rattle.po_model.specs.Blocks.{code_of, instrs_at, IsCode};
+ghost use Rattle.po_model.specs.LiveAfter.{LiveAfter};
+ghost use Rattle.po_model.specs.LiveSets.{holds_at, lives_at};
+
+mod after;
+mod graph;
+mod sets;
+mod solve;
+#[cfg(test)]
+mod tests;
+mod uses;
+
+use after::blocks_after;
+use po_model::{Code, Live};
+use po_word::OutOfMemory;
+use solve::live_out;
+use std::alloc::Global;
+
+/// What is live after each instruction, by block and index.
+#[derive(Drop)]
+pub struct Lives {
+    pub after: Vec<Vec<Live>>,
+}
+
+/// What is live after each instruction of a code in which a control transfer stands only in the last instruction of a block, or
+/// want of memory: each register and `cc` that some path from there reads before it sets it, and `fp`, which is live everywhere and
+/// so is in each set (docs/OPTIMISER.md, "Liveness").
+pub fn live_after(alloc: Global, c: &Code) -> Result<Lives, OutOfMemory>
+    requires { IsCode (code_of c.now) }
+    ensures blocks { IfOk result (λ l. length l.after.items ≡ length (code_of c.now)) }
+    ensures lengths { IfOk result (λ l. (b : ℕ) → length (lives_at l.after.items b) ≡ length (instrs_at (code_of c.now) b)) }
+    ensures live { IfOk result (λ l. (b i : ℕ) (v : Var) → i < length (instrs_at (code_of c.now) b)
+        → IsTrue (holds_at (lives_at l.after.items b) i v) ↔ LiveAfter (code_of c.now) b i v) }
+{
+    let out = live_out(alloc, &c.blocks)?;
+    let after = blocks_after(alloc, &c.blocks, &out)?;
+    Ok(Lives { after })
+}

@@ -1,0 +1,162 @@
+//! What instructions read and set, and the walk back through them: from what is live behind an instruction to what is live before it.
+ghost use Rattle.std.specs.Prelude.{◌≡◌, ℕ, OnOk, IfOk, not, true, false, ◌||◌, ◌&&◌, map};
+ghost use Rattle.std.specs.List.{list_any};
+ghost use Rattle.po_term.specs.Terms.{tree_of};
+ghost use Rattle.po_term.specs.Moves.{move_of, moves_of, instr_of, instrs_of};
+ghost use Rattle.po_model.specs.declared.var.Var.{Var as Variable};
+ghost use Rattle.po_model.specs.LiveSets.{holds};
+ghost use Rattle.po_model.specs.LiveAfter.{is_arg_of, term_reads, move_reads, move_sets, reads, sets};
+ghost use Rattle.po_live.specs.Sets.{var_eq, back, sets_any};
+
+use crate::sets::{add, remove};
+use po_model::{Live, Var};
+use po_term::{Cond, Instr, Reg, Term, Transfer};
+use po_word::OutOfMemory;
+
+/// Puts in the registers of a term. It recurses as deep as the term is.
+fn read_term(live: &mut Live, t: &Term) -> Result<(), OutOfMemory>
+    ensures { OnOk result ((q : Variable) → holds live.new q ≡ (term_reads (tree_of t.now) q || holds live.old q)) }
+{
+    match t {
+        Term::Num(_) => Ok(()),
+        Term::Reg(r) => add(live, Var::Reg(*r)),
+        Term::Addr(_) => Ok(()),
+        Term::Mem(x) => read_term(live, x),
+        Term::Un(_, x) => read_term(live, x),
+        Term::Bin(_, x, y) => {
+            read_term(live, x)?;
+            read_term(live, y)
+        }
+    }
+}
+
+fn read_two(live: &mut Live, x: &Term, y: &Term) -> Result<(), OutOfMemory>
+    ensures { OnOk result ((q : Variable) → holds live.new q ≡ ((term_reads (tree_of x.now) q || term_reads (tree_of y.now) q) || holds live.old q)) }
+{
+    read_term(live, x)?;
+    read_term(live, y)
+}
+
+/// Puts in `arg0` to `arg(n-1)`.
+fn read_args(live: &mut Live, n: u8) -> Result<(), OutOfMemory>
+    ensures { OnOk result ((q : Variable) → holds live.new q ≡ (is_arg_of n q || holds live.old q)) }
+{
+    for k in 0..n {
+        add(live, Var::Reg(Reg::Arg(k)))?;
+    }
+    Ok(())
+}
+
+/// Puts in what a transfer reads.
+fn read(live: &mut Live, t: &Transfer) -> Result<(), OutOfMemory>
+    ensures { OnOk result ((q : Variable) → holds live.new q ≡ (move_reads (move_of t.now) q || holds live.old q)) }
+{
+    match t {
+        Transfer::Set(_, x) => read_term(live, x),
+        Transfer::Cc(x, y) => read_two(live, x, y),
+        Transfer::Store(x, y) => read_two(live, x, y),
+        Transfer::Goto(_) => Ok(()),
+        Transfer::If(Cond::Cc, _, _) => add(live, Var::Cc),
+        Transfer::If(Cond::Two(x, y), _, _) => read_two(live, x, y),
+        Transfer::Call(_, n) => {
+            read_args(live, *n)?;
+            add(live, Var::Reg(Reg::Fp))
+        }
+        Transfer::Ret => {
+            add(live, Var::Reg(Reg::Rv))?;
+            add(live, Var::Reg(Reg::Fp))
+        }
+    }
+}
+
+/// Takes out what a transfer sets.
+fn unset(live: &mut Live, t: &Transfer)
+    ensures { (q : Variable) → holds live.new q ≡ (not (move_sets (move_of t.now) q) && holds live.old q) }
+{
+    match t {
+        Transfer::Set(r, _) => remove(live, Var::Reg(*r)),
+        Transfer::Cc(_, _) => remove(live, Var::Cc),
+        Transfer::Store(_, _) => {}
+        Transfer::Goto(_) => {}
+        Transfer::If(_, _, _) => {}
+        Transfer::Call(_, _) => {
+            remove(live, Var::Reg(Reg::Rv));
+            remove(live, Var::Cc);
+        }
+        Transfer::Ret => {}
+    }
+}
+
+fn read_all(live: &mut Live, xs: &[Transfer]) -> Result<(), OutOfMemory>
+    ensures { OnOk result ((q : Variable) → holds live.new q ≡ (reads (moves_of xs.now) q || holds live.old q)) }
+{
+    for t in xs {
+        read(live, t)?;
+    }
+    Ok(())
+}
+
+fn unset_all(live: &mut Live, xs: &[Transfer])
+    ensures { (q : Variable) → holds live.new q ≡ (not (sets (moves_of xs.now) q) && holds live.old q) }
+{
+    for t in xs {
+        unset(live, t);
+    }
+}
+
+/// Back through an instruction.
+pub fn step(live: &mut Live, x: &Instr) -> Result<(), OutOfMemory>
+    ensures { OnOk result ((q : Variable) → holds live.new q ≡ (reads (instr_of x.now) q || (not (sets (instr_of x.now) q) && holds live.old q))) }
+{
+    unset_all(live, &x.xs);
+    read_all(live, &x.xs)
+}
+
+/// Back through instructions.
+pub fn walk(live: &mut Live, xs: &[Instr]) -> Result<(), OutOfMemory>
+    ensures { OnOk result ((q : Variable) → holds live.new q ≡ back (instrs_of xs.now) (holds live.old) q) }
+{
+    let mut i = xs.len();
+    while i > 0 {
+        i -= 1;
+        step(live, &xs[i])?;
+    }
+    Ok(())
+}
+
+/// Puts in what a transfer sets.
+fn mark(live: &mut Live, t: &Transfer) -> Result<(), OutOfMemory>
+    ensures { OnOk result ((q : Variable) → holds live.new q ≡ (move_sets (move_of t.now) q || holds live.old q)) }
+{
+    match t {
+        Transfer::Set(r, _) => add(live, Var::Reg(*r)),
+        Transfer::Cc(_, _) => add(live, Var::Cc),
+        Transfer::Store(_, _) => Ok(()),
+        Transfer::Goto(_) => Ok(()),
+        Transfer::If(_, _, _) => Ok(()),
+        Transfer::Call(_, _) => {
+            add(live, Var::Cc)?;
+            add(live, Var::Reg(Reg::Rv))
+        }
+        Transfer::Ret => Ok(()),
+    }
+}
+
+fn mark_all(live: &mut Live, xs: &[Transfer]) -> Result<(), OutOfMemory>
+    ensures { OnOk result ((q : Variable) → holds live.new q ≡ (sets (moves_of xs.now) q || holds live.old q)) }
+{
+    for t in xs {
+        mark(live, t)?;
+    }
+    Ok(())
+}
+
+/// Puts in what instructions set.
+pub fn mark_sets(live: &mut Live, xs: &[Instr]) -> Result<(), OutOfMemory>
+    ensures { OnOk result ((q : Variable) → holds live.new q ≡ (sets_any (instrs_of xs.now) q || holds live.old q)) }
+{
+    for x in xs {
+        mark_all(live, &x.xs)?;
+    }
+    Ok(())
+}
