@@ -109,13 +109,7 @@ fn args_wanted(op: &Op) -> u8
 }
 
 /// The fault that the operation decides, if its label stands at this column.
-pub fn fault_of(
-    depth: u32,
-    labels: &Names,
-    args: &[u8],
-    op: &Op,
-    column: u32,
-) -> Option<LineFault>
+pub fn fault_of(depth: u32, labels: &Names, args: &[u8], op: &Op, column: u32) -> Option<LineFault>
     requires { depth ≤ 64 }
     ensures exact { result ≡ faults.op_fault depth labels.now args.now op.now column }
     ensures fits { IfNone result (ops.pops op.now ≤ depth) }
@@ -123,19 +117,34 @@ pub fn fault_of(
     ensures new { IfNone result (faults.repeats labels.now op.now ≡ false) }
 {
     if repeats(labels, op) {
-        return Some(LineFault { column, kind: Kind::Duplicate });
+        return Some(LineFault {
+            column,
+            kind: Kind::Duplicate,
+        });
     }
     if depth < pops(op) {
-        return Some(LineFault { column: 1, kind: Kind::StackUnderflow });
+        return Some(LineFault {
+            column: 1,
+            kind: Kind::StackUnderflow,
+        });
     }
     if depth_after(depth, op) > 64 {
-        return Some(LineFault { column: 1, kind: Kind::TooMany });
+        return Some(LineFault {
+            column: 1,
+            kind: Kind::TooMany,
+        });
     }
     if is_boundary(op) && pops(op) < depth {
-        return Some(LineFault { column: 1, kind: Kind::StackAtBoundary });
+        return Some(LineFault {
+            column: 1,
+            kind: Kind::StackAtBoundary,
+        });
     }
     if !has_args(args_wanted(op), args) {
-        return Some(LineFault { column: 1, kind: Kind::ArgMissing });
+        return Some(LineFault {
+            column: 1,
+            kind: Kind::ArgMissing,
+        });
     }
     None
 }

@@ -84,4 +84,4 @@ module _ (blocks : List Block) (first : BTreeMap ℕ ℕ) (table : (l : Label) �
       a q p
       ∙ ap (λ t. (exit_leads first (length now) (exit_by (block_ending (instrs_of d.instrs.items))) b q && b == p) || t) (ap (λ (vs : List (Vec ℕ)). pred_at vs q p) e ∙ o q p)
       ∙ one_more b p (exit_leads first (length now) (exit_by (block_ending (instrs_of d.instrs.items))) b q) (leads (map block_of blocks) p q)
-          (λ z. here_leads (length now) q h i n ∙ ap (λ k. leads (map block_of blocks) k q) (eqb-true b p z))
+      (λ z. here_leads (length now) q h i n ∙ ap (λ k. leads (map block_of blocks) k q) (eqb-true b p z))

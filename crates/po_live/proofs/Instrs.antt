@@ -106,8 +106,8 @@ pub lives_are : (blocks : List Block) (out : List Live) (after : List (Vec Live)
 lives_are blocks out after r a b i v h =
     let there : b < length blocks = omega (arith, there_below (map block_of blocks) b i h, length-map blocks block_of) in
     fp_or_read (map block_of blocks) b v (drop (suc i) (instrs_at (map block_of blocks) b)) (holds_at out b) (holds_at (lives_at after b) i v)
-      (after_at (instrs_at (map block_of blocks) b) (holds_at out b) (lives_at after b) (a b there) i v h)
-      (r b (drop (suc i) (instrs_at (map block_of blocks) b)) v)
+    (after_at (instrs_at (map block_of blocks) b) (holds_at out b) (lives_at after b) (a b there) i v h)
+    (r b (drop (suc i) (instrs_at (map block_of blocks) b)) v)
 
 pub lengths_are : (blocks : List Block) (out : List Live) (after : List (Vec Live)) → length after ≡ length blocks → ((b : ℕ) → b < length blocks → AreAfter (instrs_at (map block_of blocks) b) (holds_at out b) (lives_at after b)) → (b : ℕ) → length (lives_at after b) ≡ length (instrs_at (map block_of blocks) b)
 lengths_are blocks out after e a = all_lengths (map block_of blocks) (holds_at out) after (e ∙ sym (length-map blocks block_of)) (λ b h. a b (omega (arith, h, length-map blocks block_of)))

@@ -17,7 +17,6 @@ use Rattle.po_model.specs.LiveSets.{holds}
 use Rattle.po_live.specs.Sets.{var_eq}
 use Rattle.po_term.specs.contracts.term.RegOrd.TheImpl.{cmp-value}
 
-
 nat_key : (m n : ℕ) → is_eq (nat_cmp m n) ≡ (m == n)
 nat_key m n = grind (arith, nat_tests)
 
@@ -42,7 +41,6 @@ key_eq (Arg m) (Arg n) = nat_key m n
 any_key : (q : Register) (ks : List Register) → list_any (is_at (cmp-value.it q)) ks ≡ list_any (reg_eq q) ks
 any_key q [] = refl
 any_key q (k ∷ ks) = rw (key_eq q k, any_key q ks)
-
 
 -- what a set has after r is put in, or taken out
 pub reg_put : (r : Register) (s n : BTreeSet Register) (c : Bool) → Updates cmp-value.it s n r true → (q : Var) → holds (record { regs = n; cc = c }) q ≡ (var_eq (Reg r) q || holds (record { regs = s; cc = c }) q)

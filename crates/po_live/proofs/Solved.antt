@@ -186,7 +186,7 @@ module _ (code : List PlainBlock) (us : List Var) (out due : ℕ → Var → Boo
             let absent : out c v ≡ false = ap (λ w. out c w) f ∙ g in
             let same : var_eq v q ≡ true = ap (λ w. var_eq v w) (sym f) ∙ var_eq_refl v in
             absurd (true≢false (sym (and_both (preds c && var_eq v q) (not (out c v) && not (sets c v)) (and_both (preds c) (var_eq v q) e same) (and_both (not (out c v)) (not (sets c v)) (not_false (out c v) absent) (not_false (sets c v) unset)))
-              ∙ (or_none ((preds c && var_eq v q) && (not (out c v) && not (sets c v))) (left c q) (sym (d c q) ∙ n)).0))
+            ∙ (or_none ((preds c && var_eq v q) && (not (out c v) && not (sets c v))) (left c q) (sym (d c q) ∙ n)).0))
 
     old_back : (c : ℕ) (q : Var) → due' c q ≡ false → back (instrs_at code c) (out' c) q ≡ true → back (instrs_at code c) (out c) q ≡ true
     old_back c q n h = back_split (instrs_at code c) (out c) q ∙ go (or_cases (back (instrs_at code c) nothing q) (not (sets_any (instrs_at code c) q) && out' c q) (sym (back_split (instrs_at code c) (out' c) q) ∙ h))
@@ -200,7 +200,7 @@ module _ (code : List PlainBlock) (us : List Var) (out due : ℕ → Var → Boo
         go (inr f) =
             let parts = and_parts (not (sets_any (instrs_at code c) q)) (out' c q) f in
             or_right (back (instrs_at code c) nothing q) (not (sets_any (instrs_at code c) q) && out c q)
-              (and_both (not (sets_any (instrs_at code c) q)) (out c q) parts.0 (behind parts.0 (or_cases (preds c && var_eq v q) (out c q) (sym (o c q) ∙ parts.1))))
+            (and_both (not (sets_any (instrs_at code c) q)) (out c q) parts.0 (behind parts.0 (or_cases (preds c && var_eq v q) (out c q) (sym (o c q) ∙ parts.1))))
 
     new_passed : (c p : ℕ) (q : Var) → back (instrs_at code c) (out' c) q ≡ true → due' c q ≡ false → leads code p c ≡ true → out' p q ≡ true
     new_passed c p q h n l = go (here == c && var_eq v q) refl

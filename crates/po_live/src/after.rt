@@ -57,7 +57,11 @@ fn push_block(after: &mut Vec<Vec<Live>>, lives: Vec<Live>) -> Result<(), OutOfM
 }
 
 /// What is live after each instruction of each block.
-pub fn blocks_after(alloc: Global, blocks: &[Block], out: &[Live]) -> Result<Vec<Vec<Live>>, OutOfMemory>
+pub fn blocks_after(
+    alloc: Global,
+    blocks: &[Block],
+    out: &[Live],
+) -> Result<Vec<Vec<Live>>, OutOfMemory>
     requires { length out.now ≡ length blocks.now }
     ensures len { IfOk result (λ after. length after.items ≡ length blocks.now) }
     ensures after { IfOk result (λ after. (b : ℕ) → b < length blocks.now

@@ -161,7 +161,12 @@ fn empty_lists(alloc: Global, n: usize) -> Result<Vec<Vec<usize>>, OutOfMemory>
 }
 
 /// Writes the block b into the lists of the blocks that may follow it.
-fn add_edges(preds: &mut [Vec<usize>], first: &Labels, block: &Block, b: usize) -> Result<(), OutOfMemory>
+fn add_edges(
+    preds: &mut [Vec<usize>],
+    first: &Labels,
+    block: &Block,
+    b: usize,
+) -> Result<(), OutOfMemory>
     requires here { b < length preds.old }
     requires below { (k q : ℕ) → get nat_cmp first.now k ≡ Some q → q < length preds.old }
     ensures { OnOk result ((q p : ℕ) → pred_at preds.new q p

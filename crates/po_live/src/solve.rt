@@ -52,7 +52,13 @@ fn has_at(sets: &[Live], p: usize, v: Var) -> bool
 }
 
 /// v is live at the end of the block p: where that is new and the block doesn't set v, it is due at the block's start.
-fn arrive(p: usize, v: Var, sets: &[Live], out: &mut [Live], work: &mut Vec<Due>) -> Result<(), OutOfMemory>
+fn arrive(
+    p: usize,
+    v: Var,
+    sets: &[Live],
+    out: &mut [Live],
+    work: &mut Vec<Due>,
+) -> Result<(), OutOfMemory>
     requires here { p < length out.old }
     requires sets { length sets.now ≡ length out.old }
     ensures out { OnOk result ((b : ℕ) (q : Variable) → holds_at out.new b q ≡ ((p == b && var_eq v q) || holds_at out.old b q)) }
@@ -68,7 +74,13 @@ fn arrive(p: usize, v: Var, sets: &[Live], out: &mut [Live], work: &mut Vec<Due>
 }
 
 /// v is live at the ends of the blocks ps.
-fn spread(v: Var, ps: &[usize], sets: &[Live], out: &mut [Live], work: &mut Vec<Due>) -> Result<(), OutOfMemory>
+fn spread(
+    v: Var,
+    ps: &[usize],
+    sets: &[Live],
+    out: &mut [Live],
+    work: &mut Vec<Due>,
+) -> Result<(), OutOfMemory>
     requires here { (p : ℕ) → is_in ps.now p ≡ true → p < length out.old }
     requires sets { length sets.now ≡ length out.old }
     ensures out { OnOk result ((b : ℕ) (q : Variable) → holds_at out.new b q ≡ ((is_in ps.now b && var_eq v q) || holds_at out.old b q)) }

@@ -16,11 +16,20 @@ const CODES: [(&[&str], &str); 6] = [
     // a straight block
     (&["zuvr"], "v0 fp;v1 fp;fp rv;fp;"),
     // a loop, at whose end v0 is live since its start reads it
-    (&["z", "0ucb", "r"], "v0 fp rv;v0 v1 fp rv;v0 fp rv cc;v0 fp rv;fp;"),
+    (
+        &["z", "0ucb", "r"],
+        "v0 fp rv;v0 v1 fp rv;v0 fp rv cc;v0 fp rv;fp;",
+    ),
     // cc is read over a branch, behind the label and not behind the branch
-    (&["cB", "zr", "1b", "r"], "fp rv cc;fp rv cc;fp rv;fp;fp rv;fp;"),
+    (
+        &["cB", "zr", "1b", "r"],
+        "fp rv cc;fp rv cc;fp rv;fp;fp rv;fp;",
+    ),
     // a call reads two arguments, and sets rv and cc
-    (&["xyck", "wb", "r"], "v0 v1 fp arg0;v0 v1 fp arg0 arg1;fp arg0 arg1;fp rv cc;fp rv cc;fp rv;fp;"),
+    (
+        &["xyck", "wb", "r"],
+        "v0 v1 fp arg0;v0 v1 fp arg0 arg1;fp arg0 arg1;fp rv cc;fp rv cc;fp rv;fp;",
+    ),
     // behind a jump to a label that no block has nothing is read
     (&["zg", "ur"], "fp;fp;fp rv;fp;"),
     // the first of two blocks with one label
@@ -75,9 +84,10 @@ fn is_plain(xs: &[Transfer]) -> bool
 {
     match xs {
         [] => true,
-        [Transfer::Set(_, _) | Transfer::Cc(_, _) | Transfer::Store(_, _), rest @ ..] => {
-            is_plain(rest)
-        }
+        [
+            Transfer::Set(_, _) | Transfer::Cc(_, _) | Transfer::Store(_, _),
+            rest @ ..,
+        ] => { is_plain(rest) }
         _ => false,
     }
 }

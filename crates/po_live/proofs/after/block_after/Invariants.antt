@@ -9,7 +9,7 @@ abbrev pub invariant-loop-i : goal.invariant-loop-i
 invariant-loop-i l = record {
   within : l.i ≤ length l.xs;
   live : (q : Var) → holds l.live q ≡ back (instrs_of (drop l.i l.xs)) (holds l.out) q;
-  after : AreAfter (instrs_of (drop l.i l.xs)) (holds l.out) (reverse l.after.items)
+  after : AreAfter (instrs_of (drop l.i l.xs)) (holds l.out) (reverse l.after.items);
 }
 
 abbrev pub decreases-loop-i : goal.decreases-loop-i

@@ -57,9 +57,9 @@ passing-preserved c =
     rw (written_back c.spread.new.out c.passing.out.items c.passing.out.len keeps same) (record {
       long = omega arith;
       going = passed_on (map block_of c.args.blocks.now) (vars_of c.in_ok-work.work.items) (holds_at c.passing.out.items) (is_due c.passing.work.items) c.passing.invariant.going
-        c.in-Some.due.block c.in-Some.due.var (is_due c.pop.new.self.items) (due_popped c.passing.work.items c.pop.new.self.items c.in-Some.due c.in-Some.ensures.items)
-        (is_in c.deref.result.now) are
-        (holds_at c.deref-in-Some.result.now) (holds_at c.spread.new.out) (is_due c.spread.new.work.items)
-        (sets_are c.args.blocks.now c.in_ok-sets.sets.items c.deref-in-Some.result.now c.deref-in-Some.ensures.value c.in_ok-sets.ensures.sets)
-        out work;
+          c.in-Some.due.block c.in-Some.due.var (is_due c.pop.new.self.items) (due_popped c.passing.work.items c.pop.new.self.items c.in-Some.due c.in-Some.ensures.items)
+          (is_in c.deref.result.now) are
+          (holds_at c.deref-in-Some.result.now) (holds_at c.spread.new.out) (is_due c.spread.new.work.items)
+          (sets_are c.args.blocks.now c.in_ok-sets.sets.items c.deref-in-Some.result.now c.deref-in-Some.ensures.value c.in_ok-sets.ensures.sets)
+          out work;
     })

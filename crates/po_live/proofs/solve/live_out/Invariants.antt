@@ -8,7 +8,7 @@ use Rattle.po_live.proofs.solve.live_out.Given as goal
 abbrev pub invariant-passing : goal.invariant-passing
 invariant-passing l = record {
   long : length l.out.items ≡ length l.blocks;
-  going : Going (map block_of l.blocks) (vars_of l.initial.work.items) (holds_at l.out.items) (is_due l.work.items)
+  going : Going (map block_of l.blocks) (vars_of l.initial.work.items) (holds_at l.out.items) (is_due l.work.items);
 }
 
 -- each turn takes what is due once, and adds no more than it finds

@@ -14,9 +14,9 @@ loop-p-preserved c = record {
   long = omega arith;
   out = more_out c.args.v c.args.ps.now c.loop-p.p-index c.loop-p-test.true (holds_at c.args.out.now) (holds_at c.loop-p.out) (holds_at c.arrive.new.out) (holds_at c.args.sets.now) c.loop-p.invariant.out c.in_ok-arrive.ensures.out;
   work = more_work c.args.v c.args.ps.now c.loop-p.p-index c.loop-p-test.true (holds_at c.args.out.now) (holds_at c.loop-p.out) (holds_at c.arrive.new.out) (holds_at c.args.sets.now) c.loop-p.invariant.out
-    (is_due c.args.work.now.items) (is_due c.loop-p.work.items) (is_due c.arrive.new.work.items) c.loop-p.invariant.work c.in_ok-arrive.ensures.work;
+      (is_due c.args.work.now.items) (is_due c.loop-p.work.items) (is_due c.arrive.new.work.items) c.loop-p.invariant.work c.in_ok-arrive.ensures.work;
   fuel = λ us i.
-    let a = c.loop-p.invariant.fuel us i in
-    let b = rw (c.loop-p.invariant.long) at (c.in_ok-arrive.ensures.fuel us i) in
-    omega (arith, a, b);
+      let a = c.loop-p.invariant.fuel us i in
+      let b = rw (c.loop-p.invariant.long) at (c.in_ok-arrive.ensures.fuel us i) in
+      omega (arith, a, b);
 }

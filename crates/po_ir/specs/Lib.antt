@@ -1,0 +1,5 @@
+pub mod Keys
+pub mod Ops
+pub mod Lines
+pub mod Faults
+pub mod Reading
