@@ -14,8 +14,6 @@ mod after;
 mod graph;
 mod sets;
 mod solve;
-#[cfg(test)]
-mod tests;
 mod uses;
 
 use after::blocks_after;
