@@ -1,5 +1,0 @@
-pub mod Keys
-pub mod Ops
-pub mod Lines
-pub mod Faults
-pub mod Reading
