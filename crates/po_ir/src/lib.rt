@@ -1,4 +1,17 @@
-//! Stack code. Today its names alone.
+//! Stack code: the units of a text. A text is read exactly, to its units or to its first fault; `docs/STACK.md` has the
+//! language. A line's operation, what the operations so far say of the next one, and the text are proved equal to
+//! definitions on lists, one behind the other.
 #![tactic(auto)]
 
+mod begun;
+mod line;
+mod open;
+mod read;
+mod rules;
+mod state;
+mod unit;
+mod words;
+
 pub use po_name::Name;
+pub use read::read_units;
+pub use unit::{Op, Unit};

@@ -5,9 +5,6 @@
 -- At `words` and `places` this is recognition. At another kind of constants it is the same reading over them.
 use Rattle.std.specs.Prelude.{ℕ, suc, ℤ, Bool, true, false, ◌&&◌, ◌==◌, nat_lt, if◌then◌else◌, List, [], ◌∷◌, ◌++◌, Option, Some, None}
 use Rattle.std.specs.List.{list_all}
-use Rattle.po_word.specs.declared.operator.Un.{Un}
-use Rattle.po_word.specs.declared.operator.Bin.{Bin}
-use Rattle.po_word.specs.declared.operator.Rel.{Rel}
 use Rattle.po_word.specs.Words.{signed}
 use Rattle.po_word.specs.Exprs.{Ask, Within, Same}
 use Rattle.po_term.specs.declared.term.Reg.{Reg}

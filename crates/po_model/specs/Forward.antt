@@ -2,7 +2,7 @@
 --
 -- An address has a base and an offset: c has the offset c and no base, (u + c) the base u and the offset c, and any other term
 -- is its own base without an offset.
-use Rattle.std.specs.Prelude.{ℕ, Bool, true, false, if◌then◌else◌, List, Option, Some, None}
+use Rattle.std.specs.Prelude.{Bool, true, false, if◌then◌else◌, List, Option, Some, None}
 use Rattle.po_word.specs.Exprs.{Ask, Zero}
 use Rattle.po_word.specs.Exprs as asked
 use Rattle.po_word.specs.declared.operator.Bin.TheVariants.{Add}

@@ -1,12 +1,12 @@
 -- The one list of transfers that two instructions A and B come to, with what is live after B.
-use Rattle.std.specs.Prelude.{ℕ, Bool, true, false, not, ◌&&◌, ◌||◌, if◌then◌else◌, List, [], ◌∷◌, ◌++◌, filter, Option, Some, None, is_some}
+use Rattle.std.specs.Prelude.{Bool, true, false, not, ◌&&◌, ◌||◌, if◌then◌else◌, List, [], ◌∷◌, ◌++◌, filter, Option, Some, None, is_some}
 use Rattle.std.specs.List.{list_any}
 use Rattle.po_word.specs.declared.operator.Rel.{Rel}
 use Rattle.po_term.specs.declared.term.Alias.{Alias}
 use Rattle.po_term.specs.declared.term.Alias.TheVariants as alias
 use Rattle.po_term.specs.declared.term.Label.{Label}
-use Rattle.po_term.specs.Tree.{Tree, Const, Leaf, Read, Unary, Binary}
-use Rattle.po_term.specs.Moves.{GoTo, IfCc, IfTwo, CallOf, Return, Move, SetTo, CcTo, StoreTo, Ends}
+use Rattle.po_term.specs.Tree.{Tree, Leaf}
+use Rattle.po_term.specs.Moves.{IfCc, IfTwo, CallOf, Return, Move, SetTo, CcTo, StoreTo, Ends}
 use Rattle.po_term.specs.Kinds.{Kind, Met, give, and_then}
 use Rattle.po_term.specs.Simplified.{decided, simple_moves}
 use Rattle.po_model.specs.Parts.{Sameness, cc_of, store_of, right_at}

@@ -1,7 +1,6 @@
 -- The parts of an instruction: what its transfers set, compare, store, and how they end.
-use Rattle.std.specs.Prelude.{ℕ, Bool, true, false, ◌==◌, if◌then◌else◌, List, [], ◌∷◌, Option, Some, None}
+use Rattle.std.specs.Prelude.{Bool, false, ◌==◌, if◌then◌else◌, List, [], ◌∷◌, Option, Some, None}
 use Rattle.po_term.specs.declared.term.Reg.{Reg as Register}
-use Rattle.po_term.specs.declared.term.Sym.{Sym}
 use Rattle.po_term.specs.Tree.{Tree}
 use Rattle.po_term.specs.Terms.{Place, InReg, AtSym}
 use Rattle.po_term.specs.Moves.{Ending, Move, SetTo, CcTo, StoreTo, Ends}

@@ -1,8 +1,6 @@
 -- A pattern as plain moves: its constants, registers and symbols are those of an entry.
 use Rattle.std.specs.Prelude.{ℕ, ℤ, List, map, Option}
 use Rattle.po_word.specs.declared.operator.Rel.{Rel}
-use Rattle.po_term.specs.declared.term.Reg.{Reg}
-use Rattle.po_term.specs.declared.term.Label.{Label}
 use Rattle.po_term.specs.Tree.{Tree, Const, Leaf, Read, Unary, Binary}
 use Rattle.po_model.specs.declared.machine.PatReg.{PatReg}
 use Rattle.po_model.specs.declared.machine.PatTerm.{PatTerm}

@@ -1,0 +1,6 @@
+pub mod Keys
+pub mod Ops
+pub mod Lines
+pub mod Faults
+pub mod Reading
+pub mod Units
