@@ -4,3 +4,4 @@ pub mod Lines
 pub mod Faults
 pub mod Reading
 pub mod Units
+pub mod Grammar
