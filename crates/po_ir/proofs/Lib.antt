@@ -1,2 +1,4 @@
 pub mod Prefix
 pub mod OpLaws
+pub mod StepLaws
+pub mod Allowed

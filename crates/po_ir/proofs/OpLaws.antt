@@ -58,7 +58,7 @@ small_number_found most n w e =
     let f = number_found (pos 0) (pos most) b.0 w b.1 in
     small_parts most n w.bytes b.0 f.number f.under f.over (ok_is b.2)
 
-no_more_again : (ws : List Placed) → map bytes_of ws ≡ [] → no_more ws ≡ Ok tt
+pub no_more_again : (ws : List Placed) → map bytes_of ws ≡ [] → no_more ws ≡ Ok tt
 unfolding no_more
 no_more_again [] e = refl
 no_more_again (w ∷ ws) e = cc

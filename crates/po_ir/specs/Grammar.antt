@@ -1,12 +1,17 @@
--- The form of a unit's lines, apart from how they are read: which words write an operation.
-use Rattle.std.specs.Prelude.{◌≡◌, ℕ, ◌≤◌, List, [], ◌∷◌, ℤ, pos, negsuc, ◌≤ℤ◌, IsTrue, Some}
+-- The form of a unit's lines, apart from how they are read: which words write an operation, and which lines write units.
+use Rattle.std.specs.Prelude.{◌≡◌, ℕ, ◌≤◌, List, [], ◌∷◌, ◌++◌, length, map, codes, Bool, true, not, nat_eq, ℤ, pos, negsuc, ◌≤ℤ◌, All, IsTrue, Some}
+use Rattle.std.specs.List.{AllZip, filter, starts_with}
 use Rattle.po_word.specs.Words.{word_of}
 use Rattle.po_text.specs.Number.{number_of}
 use Rattle.po_name.specs.Names.{is_name}
+use Rattle.po_lines.specs.Lines.{Numbered}
+use Rattle.po_lines.specs.Words.{Placed, words_in}
 use Rattle.po_ir.specs.declared.unit.Op.{Op}
 use Rattle.po_ir.specs.declared.unit.Op.TheVariants as op
 use Rattle.po_ir.specs.Keys.{key_text}
 use Rattle.po_ir.specs.Ops.{key_of}
+use Rattle.po_ir.specs.declared.unit.Unit.{Unit as StackUnit}
+use Rattle.po_ir.specs.Units.{IsUnit, NamesDiffer}
 
 -- the digits are a number from -2147483648 to 4294967295, which is n modulo 2 ^ 32
 pub record IsWordNumber (digits : List ℕ) (n : ℕ) : Type 0 where
@@ -45,3 +50,35 @@ IsArgument op.Ret ws = ws ≡ []
 -- these words are the line of this operation
 abbrev pub IsOpLine : List (List ℕ) → Op → Type 0
 IsOpLine ws o = (rest : List (List ℕ)) × IsArgument o rest × (ws ≡ key_text (key_of o) ∷ rest)
+
+abbrev pub word_bytes : Placed → List ℕ
+word_bytes w = w.bytes
+
+-- the words of a line, without their columns
+abbrev pub texts_of : Numbered → List (List ℕ)
+texts_of l = map word_bytes (words_in l.bytes)
+
+-- a line without words, or whose first word begins with `//`, says nothing
+abbrev pub is_silent : List (List ℕ) → Bool
+is_silent [] = true
+is_silent (w ∷ ws) = starts_with nat_eq w (codes "//")
+
+-- what the lines say: the words of each that says something
+abbrev pub said : List Numbered → List (List (List ℕ))
+said ls = filter (λ ws. not (is_silent ws)) (map texts_of ls)
+
+-- each unit is its first line, a line for each operation, and its last line
+abbrev pub AreLinesOf : List (List (List ℕ)) → List StackUnit → Type 0
+AreLinesOf ls [] = ls ≡ []
+AreLinesOf ls (u ∷ us) =
+    (body : List (List (List ℕ))) × (rest : List (List (List ℕ)))
+    × (ls ≡ (codes "unit" ∷ u.name ∷ []) ∷ (body ++ (codes "end" ∷ []) ∷ rest))
+    × AllZip IsOpLine body u.ops × AreLinesOf rest us
+
+-- these lines write these units, and the language allows them
+pub record IsUnits (ls : List Numbered) (us : List StackUnit) : Type 0 where
+  pub short : All (λ l. length l.bytes ≤ 4096) ls
+  pub lines : AreLinesOf (said ls) us
+  pub allowed : All IsUnit us
+  pub differ : NamesDiffer us
+  pub few : length us ≤ 65536
