@@ -2,3 +2,4 @@ pub mod Prefix
 pub mod OpLaws
 pub mod StepLaws
 pub mod Allowed
+pub mod Printed

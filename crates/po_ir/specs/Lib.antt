@@ -5,3 +5,4 @@ pub mod Faults
 pub mod Reading
 pub mod Units
 pub mod Grammar
+pub mod Printing

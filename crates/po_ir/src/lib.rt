@@ -6,6 +6,7 @@
 mod begun;
 mod line;
 mod open;
+mod print;
 mod read;
 mod rules;
 mod state;
@@ -13,5 +14,6 @@ mod unit;
 mod words;
 
 pub use po_name::Name;
+pub use print::print_unit;
 pub use read::read_units;
 pub use unit::{Op, Unit};
