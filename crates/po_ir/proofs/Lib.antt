@@ -3,3 +3,4 @@ pub mod OpLaws
 pub mod StepLaws
 pub mod Allowed
 pub mod Printed
+pub mod LineLaws
