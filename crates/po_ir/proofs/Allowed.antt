@@ -60,7 +60,7 @@ follow_more : (before os : List Op) (o : Op) → Follow before os → decided (b
 follow_more before [] o f h = (subst (λ (b : List Op). decided b o 1 ≡ None) (append-nil before) h, tt)
 follow_more before (p ∷ os) o f h = (f.0, follow_more (before ++ p ∷ []) os o f.1 (subst (λ (b : List Op). decided b o 1 ≡ None) (sym (append_assoc before (p ∷ []) os)) h))
 
-targets_next : (os : List Op) (o : Op) → flat_map target_in (os ++ o ∷ []) ≡ flat_map target_in os ++ target_in o
+pub targets_next : (os : List Op) (o : Op) → flat_map target_in (os ++ o ∷ []) ≡ flat_map target_in os ++ target_in o
 targets_next [] o = append-nil (target_in o)
 targets_next (p ∷ os) o = ap (λ (r : List (List ℕ)). target_in p ++ r) (targets_next os o) ∙ sym (append_assoc (target_in p) (flat_map target_in os) (target_in o))
 

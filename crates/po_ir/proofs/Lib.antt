@@ -4,3 +4,4 @@ pub mod StepLaws
 pub mod Allowed
 pub mod Printed
 pub mod LineLaws
+pub mod TextLaws

@@ -75,9 +75,13 @@ AreLinesOf ls (u ∷ us) =
     × (ls ≡ (codes "unit" ∷ u.name ∷ []) ∷ (body ++ (codes "end" ∷ []) ∷ rest))
     × AllZip IsOpLine body u.ops × AreLinesOf rest us
 
+-- a line has at most 4096 bytes
+abbrev pub IsShort : Numbered → Type 0
+IsShort l = length l.bytes ≤ 4096
+
 -- these lines write these units, and the language allows them
 pub record IsUnits (ls : List Numbered) (us : List StackUnit) : Type 0 where
-  pub short : All (λ l. length l.bytes ≤ 4096) ls
+  pub short : All IsShort ls
   pub lines : AreLinesOf (said ls) us
   pub allowed : All IsUnit us
   pub differ : NamesDiffer us
