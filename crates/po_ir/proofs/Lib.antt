@@ -5,3 +5,4 @@ pub mod Allowed
 pub mod Printed
 pub mod LineLaws
 pub mod TextLaws
+pub mod PrintLaws
