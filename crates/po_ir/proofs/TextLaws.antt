@@ -1,13 +1,14 @@
 -- Lines that write units are read as these units, and what is read as units is written by the lines.
 use Rattle.std.proofs.Common.{◌≡◌, ◌≢◌, ℕ, zero, suc, ◌+◌, ◌≤◌, ◌<◌, List, [], ◌∷◌, ◌++◌, Bool, true, false, Result, Ok, Err, Option, Some, None, refl, ap, sym, ◌∙◌, subst, map, length, arith, append_assoc, append-nil, length-append, All, get_or}
-use Rattle.std.specs.Prelude.{AllPairs, codes, cond, ◌==◌, ◌||◌, not, nat_eq, find, IsTrue, ⊤}
+use Rattle.std.specs.Prelude.{AllPairs, codes, cond, ◌==◌, ◌||◌, not, nat_eq, find, IfOk, IsTrue, ⊤}
 use Rattle.std.specs.List.{AllZip, flat_map, filter, starts_with, list_any}
 use Rattle.std.specs.Cmp.Lexicographic.{pointwise}
 use Rattle.std.proofs.lemmas.Bool.Decides.{nat_tests}
 use Rattle.std.proofs.lemmas.List.Elements.{All-nil, All-cons, All-head, All-tail, All-same}
 use Rattle.po_name.specs.Names.{is_name}
 use Rattle.po_lines.specs.Lines.{Numbered}
-use Rattle.po_lines.specs.Faults.{◌>>=◌, TextFault}
+use Rattle.po_text.specs.declared.fault.TextRefusal.{TextRefusal}
+use Rattle.po_lines.specs.Faults.{◌>>=◌, TextFault, Gets}
 use Rattle.po_lines.specs.NameList.{has}
 use Rattle.po_lines.specs.Leaves.{same}
 use Rattle.po_lines.specs.Reading.{read_each}
@@ -268,3 +269,8 @@ all_again (l ∷ ls) = λ us vs i short h good jumps. one_line_again l ls (all_a
 pub units_again : (ls : List Numbered) (line : ℕ) (us : List StackUnit) → IsUnits ls us → units_in ls line ≡ Ok us
 unfolding units_in finish
 units_again ls line us h = rw (all_again ls [] us None h.short h.lines (record { each = h.allowed; differ = h.differ; few = h.few }) tt) refl
+
+-- the same of the code's answer
+pub answer_written : (ls : List Numbered) (line : ℕ) (r : Result (List StackUnit) TextRefusal) → Gets (λ us. us) r (units_in ls line) → IfOk r (IsUnits ls)
+answer_written ls line (Ok us) h = units_found ls line us h
+answer_written ls line (Err e) h = tt

@@ -6,3 +6,4 @@ pub mod Reading
 pub mod Units
 pub mod Grammar
 pub mod Printing
+pub mod Laws

@@ -4,6 +4,7 @@
 #![tactic(auto)]
 
 mod begun;
+mod laws;
 mod line;
 mod open;
 mod print;
@@ -13,6 +14,7 @@ mod state;
 mod unit;
 mod words;
 
+pub use laws::{printed_units_are_read, units_are_written};
 pub use po_name::Name;
 pub use print::print_unit;
 pub use read::read_units;

@@ -3,9 +3,10 @@
 ghost use Rattle.std.specs.Prelude.{◌≡◌, ◌≤◌, ◌+◌, ◌<◌, ◌^◌, ◌++◌, ◌∷◌, [], map, length, All, IfOk};
 ghost use Rattle.std.specs.Option.{option_map};
 ghost use Rattle.po_lines.specs.Faults.{Gets};
-ghost use Rattle.po_lines.specs.Lines.{line_of};
+ghost use Rattle.po_lines.specs.Lines.{line_of, lines_behind};
 ghost use Rattle.po_lines.specs.Reading.{read_each};
 ghost use Rattle.po_lines.specs.Words.{seen};
+ghost use Rattle.po_ir.specs.Grammar.{IsUnits};
 ghost use Rattle.po_ir.specs.Reading as reading;
 ghost use Rattle.po_ir.specs.Reading.{IsState, state_shown};
 ghost use Rattle.po_ir.specs.Units.{IsUnit, NamesDiffer};
@@ -253,6 +254,7 @@ pub fn read_units(alloc: Global, text: &[u8], at: Spot) -> Result<Items<Unit>, T
     ensures allowed { IfOk result (λ us. All IsUnit us) }
     ensures differ { IfOk result (λ us. NamesDiffer us) }
     ensures few { IfOk result (λ us. length us ≤ 65536) }
+    ensures written { IfOk result (IsUnits (lines_behind at text.now)) }
 {
     units_of(alloc, text, at)
 }
