@@ -1,6 +1,6 @@
 -- The parts of a term that have no parts of their own: operands, numbers, registers. Blanks before a part are passed
 -- over by what reads it; none stands inside an operand with its digit, a number or a name.
-use Rattle.std.specs.Prelude.{ℕ, ◌+◌, ◌-◌, ◌==◌, ◌||◌, Bool, List, [], ◌∷◌, take, codes, ℤ, int_le, if◌then◌else◌, Result, Ok, Err, Option, Some, None, ⊤}
+use Rattle.std.specs.Prelude.{ℕ, ◌+◌, ◌-◌, ◌==◌, Bool, List, [], ◌∷◌, take, codes, ℤ, int_le, if◌then◌else◌, Result, Ok, Err, Option, Some, None, ⊤}
 use Rattle.std.specs.List.{prefix_len}
 use Rattle.po_word.specs.Words.{word_of}
 use Rattle.po_text.specs.declared.fault.Kind.TheVariants as fault_kind

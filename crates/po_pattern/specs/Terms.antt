@@ -1,6 +1,6 @@
 -- Whole terms. A term is read part by part: what is open stands on a stack of frames, the innermost first. A part of more
 -- than 64 nodes or deeper than 16 is read for its form alone: none stands in place of its tree.
-use Rattle.std.specs.Prelude.{ℕ, zero, suc, ◌+◌, ◌==◌, ◌&&◌, ◌||◌, nat_le, nat_eq, max, Bool, List, [], ◌∷◌, length, codes, if◌then◌else◌, Result, Ok, Err, Option, Some, None}
+use Rattle.std.specs.Prelude.{ℕ, zero, suc, ◌+◌, ◌==◌, ◌&&◌, ◌||◌, nat_le, nat_eq, max, Bool, true, false, List, [], ◌∷◌, length, codes, if◌then◌else◌, Result, Ok, Option, Some, None}
 use Rattle.std.specs.List.{prefix_len, starts_with}
 use Rattle.std.specs.Option.{option_map}
 use Rattle.po_word.specs.declared.operator.Un.{Un}
@@ -20,7 +20,7 @@ use Rattle.po_pattern.specs.declared.part.Frame.{Frame}
 use Rattle.po_pattern.specs.declared.part.Frame.TheVariants as frame
 use Rattle.po_pattern.specs.declared.part.Turn.{Turn}
 use Rattle.po_pattern.specs.declared.part.Turn.TheVariants.{Opens, Whole}
-use Rattle.po_pattern.specs.Rests.{Rest, Read, behind, skip_blanks, wrong, begins, mark}
+use Rattle.po_pattern.specs.Rests.{Rest, Read, behind, skip_blanks, wrong, mark}
 use Rattle.po_pattern.specs.Parts.{any_register, constant, symbol_address, numeral, fixed_register, name_here}
 
 -- a part with this number of nodes and this depth, if it is within the limits
@@ -36,7 +36,7 @@ unary_part op None = None
 unary_part op (Some p) = kept (pat.Un op p.term) (p.size + 1) (p.depth + 1)
 
 abbrev pub joined : Bin → Part → Part → Option Part
-joined op p q = kept (pat.Bin op p.term q.term) (p.size + q.size + 1) (max p.depth q.depth + 1)
+joined op p q = kept (pat.Bin op p.term q.term) (p.size + (q.size + 1)) (max p.depth q.depth + 1)
 
 abbrev pub binary_part : Bin → Option Part → Option Part → Option Part
 binary_part op None right = None
@@ -149,6 +149,18 @@ behind_whole (frame.Right op left) part r seen = closed 41 (binary_part op left 
 pub record Reading : Type 0 where
   pub frames : List Frame
   pub turn : Read Turn
+
+abbrev pub none_open : List Frame → Bool
+none_open [] = true
+none_open (frame ∷ frames) = false
+
+-- a whole part stands and no frame is open
+abbrev pub whole_with : List Frame → Turn → Bool
+whole_with frames (Opens frame) = false
+whole_with frames (Whole part) = none_open frames
+
+abbrev pub is_whole : Reading → Bool
+is_whole s = whole_with s.frames s.turn.value
 
 -- one part more; where a whole part stands and no frame is open the term is whole
 abbrev pub step_with : List Frame → Turn → Rest → Operands → Result Reading LineFault

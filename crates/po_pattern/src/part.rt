@@ -1,7 +1,5 @@
 //! The parts of a term while it is read.
 
-ghost use Rattle.std.specs.Prelude.{◌≤◌};
-
 use po_model::PatTerm;
 use po_word::{Bin, Un};
 
@@ -11,8 +9,6 @@ pub struct Part {
     pub term: PatTerm,
     pub size: u32,
     pub depth: u32,
-    pub ghost few: { size ≤ 64 },
-    pub ghost flat: { depth ≤ 16 },
 }
 
 /// A part that has begun, and what was read of it. A whole part beyond the limits is none.

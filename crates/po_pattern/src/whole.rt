@@ -7,7 +7,7 @@ ghost use Rattle.po_pattern.specs.Terms as terms;
 ghost use Rattle.po_pattern.specs.Readings.{reading_of};
 
 use crate::cursor::{Cursor, Parsed};
-use crate::frames::{pop_frame, with_frame};
+use crate::frames::{none_open, pop_frame, with_frame};
 use crate::operands::Operands;
 use crate::part::{Frame, Part, Turn};
 use crate::places::{behind, mark, name_length, skip_blanks};
@@ -30,35 +30,46 @@ pub fn term<'a>(
     ensures { Gives read_of result (terms.term (rest_of cursor.entry) seen) }
 {
     let turn = wanted(skip_blanks(cursor), seen)?;
-    let last = read_parts(alloc, Items::new(alloc), turn)?;
+    let first = Reading {
+        frames: Items::new(alloc),
+        turn,
+    };
+    let Reading { frames: _, turn } = read_parts(alloc, first, cursor.bytes.len())?;
     Ok(Parsed {
-        value: tree_of(last.value),
-        rest: last.rest,
-        seen: last.seen,
+        value: tree_of(turn.value),
+        rest: turn.rest,
+        seen: turn.seen,
     })
 }
 
-/// The last part of a term, read from these frames and this part on.
+/// So many parts more, or as many as there are until the term is whole.
+#[tactic(auto, using(crate::proofs::Steps::steps_next))]
 fn read_parts<'a>(
     alloc: Global,
-    frames: Items<Frame>,
-    turn: Parsed<'a, Turn>,
-) -> Result<Parsed<'a, Turn>, LineError> {
-    let mut reading = Reading { frames, turn };
-    'parts: while !is_whole(&reading) {
+    first: Reading<'a>,
+    count: usize,
+) -> Result<Reading<'a>, LineError>
+    ensures { Gives reading_of result (terms.steps count (reading_of first.entry)) }
+{
+    let mut reading = first;
+    let mut left = count;
+    'parts: while left > 0 && !is_whole(&reading) {
         reading = match step(alloc, reading) {
             Ok(next) => next,
             Err(error) => return Err(error),
         };
+        left -= 1;
     }
-    Ok(reading.turn)
+    Ok(reading)
 }
 
-/// Whether the last part is whole and no frame is open.
-fn is_whole(reading: &Reading) -> bool {
+/// Whether a whole part stands and no frame is open.
+fn is_whole(reading: &Reading) -> bool
+    ensures { result ≡ terms.is_whole (reading_of reading.now) }
+{
     match &reading.turn.value {
         Turn::Opens(_) => false,
-        Turn::Whole(_) => reading.frames.is_empty(),
+        Turn::Whole(_) => none_open(&reading.frames),
     }
 }
 
@@ -84,8 +95,8 @@ fn open<'a>(
 ) -> Result<Reading<'a>, LineError>
     ensures { Gives reading_of result (terms.step_with (reverse frames) (Turn.Opens frame) (rest_of rest.entry) seen) }
 {
-    let turn = wanted(skip_blanks(rest), seen)?;
     let frames = with_frame(frames, frame)?;
+    let turn = wanted(skip_blanks(rest), seen)?;
     Ok(Reading { frames, turn })
 }
 
