@@ -8,9 +8,9 @@ ghost use Rattle.po_pattern.specs.Parts as parts;
 
 use crate::cursor::{Cursor, Parsed};
 use crate::numbers::number;
-use crate::ranges::operand;
 use crate::operands::{OperandKind, Operands};
 use crate::places::{begins, behind, name_length};
+use crate::ranges::operand;
 use po_lines::{LineError, fault_at};
 use po_model::{PatReg, PatTerm};
 use po_term::Reg;
@@ -31,10 +31,7 @@ pub fn register<'a>(cursor: Cursor<'a>, seen: Operands) -> Result<Parsed<'a, Pat
 
 /// `%k`
 #[tactic(auto, unfolding(crate::specs::Parts::any_register))]
-pub fn any_register<'a>(
-    cursor: Cursor<'a>,
-    seen: Operands,
-) -> Result<Parsed<'a, PatReg>, LineError>
+pub fn any_register<'a>(cursor: Cursor<'a>, seen: Operands) -> Result<Parsed<'a, PatReg>, LineError>
     ensures { Gives read_of result (parts.any_register (rest_of cursor.entry) seen) }
 {
     let digit = operand(OperandKind::Register, cursor, seen)?;

@@ -44,11 +44,7 @@ pub fn term<'a>(
 
 /// So many parts more, or as many as there are until the term is whole.
 #[tactic(auto, using(crate::proofs::Steps::steps_next))]
-fn read_parts<'a>(
-    alloc: Global,
-    first: Reading<'a>,
-    count: usize,
-) -> Result<Reading<'a>, LineError>
+fn read_parts<'a>(alloc: Global, first: Reading<'a>, count: usize) -> Result<Reading<'a>, LineError>
     ensures { Gives reading_of result (terms.steps count (reading_of first.entry)) }
 {
     let mut reading = first;
