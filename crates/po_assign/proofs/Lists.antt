@@ -13,6 +13,10 @@ use Rattle.po_model.specs.UnitCodes.{flat}
 pub next_of : {X : Type 0} (xs : List X) (i : ℕ) (x : X) → i < length xs → x ≡ get_or xs i x → drop i xs ≡ x ∷ drop (i + 1) xs
 next_of xs i x h e = rw (add-one, drop-cons xs i x h) (ap (λ y. y ∷ drop (suc i) xs) (sym e))
 
+-- the same, where another element stands for one that isn't there
+pub next_at : {X : Type 0} (xs : List X) (i : ℕ) (d x : X) → i < length xs → x ≡ get_or xs i d → drop i xs ≡ x ∷ drop (i + 1) xs
+next_at xs i d x h e = rw (add-one, drop-cons xs i d h) (ap (λ y. y ∷ drop (suc i) xs) (sym e))
+
 pub behind_all : {X : Type 0} (xs : List X) (i : ℕ) → length xs ≤ i → drop i xs ≡ []
 behind_all xs i h = drop_of_length-le xs h
 
