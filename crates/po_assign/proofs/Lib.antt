@@ -4,3 +4,4 @@ pub mod Intervals
 pub mod Standing
 pub mod Turns
 pub mod Apart
+pub mod Formed
