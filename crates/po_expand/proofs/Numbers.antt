@@ -1,6 +1,9 @@
 -- Names that come one behind the other.
 use Rattle.std.proofs.Common.{◌≡◌, ℕ, ◌+◌, ◌<◌, List, [], ◌∷◌, ◌++◌, length, drop, get_or, refl, ap, sym, ◌∙◌, add-one, drop-cons, suc, rules, arith}
-use Rattle.std.specs.List.{flat_map}
+use Rattle.std.specs.Prelude.{nat_lt, not, Option, None, Bool, true, false}
+use Rattle.std.specs.List.{flat_map, position, position_or_len}
+use Rattle.std.proofs.lemmas.Bool.{ltb-false}
+use Rattle.std.proofs.lemmas.List.Sums.{prefix_len-le-length}
 use Rattle.po_model.specs.Naive.{Text, with_name, names_behind}
 
 -- the next element, and those behind it
@@ -19,3 +22,11 @@ next_names f xs i x names more all h e m r =
     ∙ sym (behind_append names (f x) (flat_map f (drop (i + 1) xs)))
     ∙ ap (λ ys. names_behind names (flat_map f ys)) (sym (next_of xs i x h e))
     ∙ r
+
+-- a name that isn't there would be the next one
+pub not_there : {X : Type 0} (p : X → Bool) (xs : List X) (n : ℕ) → position p xs ≡ None → n ≡ length xs → n ≡ position_or_len p xs
+not_there p xs n e h = by_test (nat_lt (position_or_len p xs) (length xs)) refl
+  where
+    by_test : (b : Bool) → nat_lt (position_or_len p xs) (length xs) ≡ b → n ≡ position_or_len p xs
+    by_test true t = absurd (grind (arith, e, t))
+    by_test false t = omega (arith, h, ltb-false (position_or_len p xs) (length xs) t, prefix_len-le-length (λ x. not (p x)) xs)

@@ -1,5 +1,5 @@
 -- What stands between two operations as plain data, and what an operation does to it.
-use Rattle.std.specs.Prelude.{◌≡◌, ℕ, ◌+◌, ◌≤◌, List, [], ◌∷◌, ◌++◌, length, map, reverse, Option, None}
+use Rattle.std.specs.Prelude.{◌≡◌, ℕ, ◌+◌, ◌≤◌, List, [], ◌∷◌, ◌++◌, length, map, reverse, Option, None, Some}
 use Rattle.po_term.specs.declared.term.Label.{Label}
 use Rattle.po_term.specs.declared.term.Reg.TheVariants.{Virt}
 use Rattle.po_term.specs.Tree.{Tree}
@@ -9,7 +9,7 @@ use Rattle.po_term.specs.Form.{PlainMove}
 use Rattle.po_ir.specs.declared.unit.Op.{Op}
 use Rattle.po_ir.specs.Ops.{depth_by}
 use Rattle.po_model.specs.Blocks.{PlainInstr, PlainBlock, block_of}
-use Rattle.po_model.specs.Naive.{Text, pieces, cut}
+use Rattle.po_model.specs.Naive.{Text, pieces, cut, unless_blank}
 use Rattle.po_expand.specs.declared.state.Expansion.{Expansion}
 
 -- the stack has its top first
@@ -37,6 +37,14 @@ pushed a b = record { ended = b.ended; label = b.label; instrs = b.instrs; stack
 -- the block that has begun ends, and another begins
 abbrev pub closed : Between → Between
 closed b = record { ended = b.ended ++ record { label = b.label; instrs = b.instrs } ∷ []; label = None; instrs = []; stack = b.stack; next = b.next }
+
+-- the block that has begun ends, unless it is blank
+abbrev pub finished : Between → Between
+finished b = record { ended = b.ended ++ unless_blank b.label b.instrs; label = None; instrs = []; stack = b.stack; next = b.next }
+
+-- and another begins with this label
+abbrev pub marked : Label → Between → Between
+marked l b = record { ended = b.ended ++ unless_blank b.label b.instrs; label = Some l; instrs = []; stack = b.stack; next = b.next }
 
 -- the blocks of what was expanded and of these operations
 abbrev pub code_with : List Text → List Text → Between → List Op → List PlainBlock

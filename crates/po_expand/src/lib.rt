@@ -4,5 +4,7 @@
 //! `step` says what each operation does; `expand` goes through a unit; `check` asks for the entry of each instruction.
 #![tactic(auto)]
 
+mod blocks;
 mod names;
 mod state;
+mod step;
