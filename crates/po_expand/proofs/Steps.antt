@@ -12,7 +12,7 @@ use Rattle.po_term.specs.Terms.{Place, AtSym}
 use Rattle.po_term.specs.Moves.{GoTo, IfCc, CallOf, Return, SetTo, CcTo, StoreTo, Ends}
 use Rattle.po_term.specs.Form.{PlainMove}
 use Rattle.po_ir.specs.declared.unit.Op.TheVariants as op
-use Rattle.po_model.specs.Naive.{Text, label, symbol, register, virt}
+use Rattle.po_model.specs.Naive.{Text, label, symbol, number_in, register, virt}
 use Rattle.po_expand.specs.Steps.{Between, added, defined, pushed, closed, marked, Expands}
 
 pub adl_is : (labels syms : List Text) (b c : Between) (n : ℕ) (t : Tree ℕ Place) → t ≡ Binary Add (register Fp) (Const n) → c ≡ defined t b → Expands labels syms (op.Adl n) b c
@@ -59,3 +59,9 @@ call_is labels syms b m n c f n' function e g h i = rw (i, h, g, ← e) (record 
 pub ret_is : (labels syms : List Text) (b m n p c : Between) (a : ℕ) (move : PlainMove) → b ≡ pushed a m → move ≡ SetTo Rv (virt a) → n ≡ added move m → p ≡ added (Ends Return) n → c ≡ closed p
     → Expands labels syms op.Ret b c
 ret_is labels syms b m n p c a move e f g h i = rw (e, i, h, g, f) (record { code = λ os. sym (append_assoc m.ended _ _); depth = omega arith; next = omega arith })
+
+pub label_at : (labels syms : List Text) (l : Text) (n : ℕ) → n ≡ number_in labels l → label labels syms l ≡ record { 0 = n }
+label_at labels syms l n e = rw e refl
+
+pub symbol_at : (labels syms : List Text) (s : Text) (n : ℕ) → n ≡ number_in syms s → symbol labels syms s ≡ record { 0 = n }
+symbol_at labels syms s n e = rw e refl

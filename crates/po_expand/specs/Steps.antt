@@ -20,6 +20,9 @@ pub record Between : Type 0 where
   pub stack : List ℕ
   pub next : ℕ
 
+abbrev pub nothing_yet : Between
+nothing_yet = record { ended = []; label = None; instrs = []; stack = []; next = 0 }
+
 abbrev pub between : Expansion → Between
 between e = record { ended = map block_of e.ended.items; label = e.label; instrs = instrs_of e.instrs.items; stack = reverse e.stack.items; next = e.next }
 

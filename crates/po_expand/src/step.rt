@@ -189,7 +189,7 @@ impl Expansion {
     }
 
     #[tactic(auto, using(crate::proofs::Steps::br_is))]
-    fn branch(&mut self, alloc: Global, relation: Rel, target: Label) -> Result<(), OutOfMemory>
+    fn branch_on(&mut self, alloc: Global, relation: Rel, target: Label) -> Result<(), OutOfMemory>
         requires { 2 ≤ length self.old.stack.items }
         ensures { OnOk result ((labels syms : List Text) (l : Text) → label labels syms l ≡ target → Expands labels syms (op.Br relation l) (between self.old) (between self.new)) }
     {
@@ -256,7 +256,7 @@ impl Expansion {
             Op::Pop => self.discard(),
             Op::Lab(l) => self.name_place(alloc, Label(labels.number(l))),
             Op::Jmp(l) => self.jump(alloc, Label(labels.number(l))),
-            Op::Br(relation, l) => self.branch(alloc, *relation, Label(labels.number(l))),
+            Op::Br(relation, l) => self.branch_on(alloc, *relation, Label(labels.number(l))),
             Op::Arg(k) => self.set_argument(alloc, *k),
             Op::Call(f, n) => self.call(alloc, Sym(syms.number(f)), *n),
             Op::Ret => self.leave(alloc),
