@@ -1,5 +1,5 @@
 -- What the operands seen so far say of the places that were read.
-use Rattle.std.proofs.Common.{◌≡◌, ◌≢◌, ℕ, ◌<◌, ◌==◌, Bool, true, false, List, [], ◌∷◌, ◌++◌, length, set, get_or, All, AllPairs, Contains, refl, sym, ap, ◌∙◌, subst, arith, Option, Some, None, ◌⊎◌, inl, inr, eqb-true, eq-eqb}
+use Rattle.std.proofs.Common.{◌≡◌, ◌≢◌, ℕ, ◌<◌, ◌==◌, Bool, true, false, List, [], ◌∷◌, ◌++◌, length, set, get_or, All, AllPairs, Contains, refl, sym, ap, ◌∙◌, subst, arith, Option, Some, None, zero, suc, ◌⊎◌, inl, inr, eqb-true, eq-eqb}
 use Rattle.std.proofs.lemmas.List.{get_or-set_same, get_or-set_other}
 use Rattle.std.proofs.Math.ListN.{length-set}
 use Rattle.std.proofs.lemmas.List.Elements.{All-push, All-weaker, All-nil, Contains-append_left, Contains-append_right}
@@ -61,7 +61,17 @@ equal_or_not : (m n : ℕ) → (m ≡ n) ⊎ (m ≢ n)
 equal_or_not m n = elim (m == n) as (λ b. (m == n) ≡ b → (m ≡ n) ⊎ (m ≢ n)) [ true ↦ (λ e. inl (eqb-true m n e)) | false ↦ (λ e. inr (λ h. let t : (m == n) ≡ true = eq-eqb m n h in cc)) ] refl
 
 none_of_ten : (k : ℕ) (o : OperandKind) → kind_of none_seen k ≡ Some o → ⊥
-none_of_ten k o e = ?
+none_of_ten zero o e = cc
+none_of_ten (suc zero) o e = cc
+none_of_ten (suc (suc zero)) o e = cc
+none_of_ten (suc (suc (suc zero))) o e = cc
+none_of_ten (suc (suc (suc (suc zero)))) o e = cc
+none_of_ten (suc (suc (suc (suc (suc zero))))) o e = cc
+none_of_ten (suc (suc (suc (suc (suc (suc zero)))))) o e = cc
+none_of_ten (suc (suc (suc (suc (suc (suc (suc zero))))))) o e = cc
+none_of_ten (suc (suc (suc (suc (suc (suc (suc (suc zero)))))))) o e = cc
+none_of_ten (suc (suc (suc (suc (suc (suc (suc (suc (suc zero))))))))) o e = cc
+none_of_ten (suc (suc (suc (suc (suc (suc (suc (suc (suc (suc k)))))))))) o e = cc
 
 pub none_told : Tells none_seen []
 none_told = record {
