@@ -3,6 +3,6 @@
 //! lines before it, and the text are proved equal to definitions on lists.
 #![tactic(auto)]
 
+mod line;
 mod names;
 mod sofar;
-
