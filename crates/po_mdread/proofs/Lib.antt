@@ -1,2 +1,3 @@
 pub mod NameTurns
 pub mod NameLaws
+pub mod Ended

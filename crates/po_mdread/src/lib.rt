@@ -5,4 +5,7 @@
 
 mod line;
 mod names;
+mod read;
 mod sofar;
+
+pub use read::read_machine;
