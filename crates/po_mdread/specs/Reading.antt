@@ -1,5 +1,5 @@
 -- What the lines of a description say of its machine, one behind the other, or the first fault that a line decides.
-use Rattle.std.specs.Prelude.{◌≡◌, ℕ, ◌+◌, List, [], ◌∷◌, ◌++◌, length, All, codes, Bool, true, false, ◌==◌, if◌then◌else◌, Result, Ok, Err, ⊤}
+use Rattle.std.specs.Prelude.{◌≡◌, ℕ, ◌+◌, ◌≤◌, List, [], ◌∷◌, ◌++◌, length, All, codes, Bool, true, false, ◌==◌, if◌then◌else◌, Result, Ok, Err, ⊤}
 use Rattle.po_text.specs.declared.fault.Kind.TheVariants as kind
 use Rattle.po_text.specs.declared.fault.Spot.{Spot}
 use Rattle.po_lines.specs.declared.fault.LineFault.{LineFault}
@@ -148,6 +148,14 @@ start = record { offset = 0; line = 1 }
 -- the machine that a text begins with, and the place behind its `end`, or the first fault
 abbrev pub machine_in : List ℕ → Result (Machine × Spot) TextFault
 machine_in text = described (lines_behind start text) (line_behind start text)
+
+-- a place behind some of the lines of a text
+pub record IsSpotIn (text : List ℕ) (at : Spot) : Type 0 where
+  pub within : at.offset ≤ length text
+  pub counted : at.line ≤ at.offset + 1
+  -- the lines before it, and those that are left
+  pub front : List Numbered
+  pub cut : lines_behind start text ≡ front ++ lines_behind at text
 
 -- the entries so far
 abbrev pub entries_sofar : Sofar → List Entry

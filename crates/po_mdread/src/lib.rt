@@ -5,7 +5,9 @@
 
 mod line;
 mod names;
+mod print;
 mod read;
 mod sofar;
 
+pub use print::print_machine;
 pub use read::read_machine;

@@ -6,6 +6,7 @@ ghost use Rattle.po_lines.specs.Lines.{line_of};
 ghost use Rattle.po_lines.specs.Reading.{read_each};
 ghost use Rattle.po_lines.specs.Words.{seen};
 ghost use Rattle.po_model.specs.Entries.{IsEntry};
+ghost use Rattle.po_model.specs.Machines.{IsMachine};
 ghost use Rattle.po_mdread.specs.Reading as reading;
 ghost use Rattle.po_mdread.specs.Reading.{IsState};
 
@@ -137,7 +138,9 @@ fn read_lines(alloc: Global, lines: &mut Lines) -> Result<Sofar, TextRefusal>
 #[tactic(auto, unfolding(crate::specs::Reading::described, crate::specs::Reading::finish))]
 pub fn read_machine(alloc: Global, text: &[u8]) -> Result<(Machine, Spot), TextRefusal>
     requires { length text.now < 2 ^ 32 - 1 }
-    ensures { Gets (λ r. r) result (reading.machine_in text.now) }
+    ensures gets { Gets (λ r. r) result (reading.machine_in text.now) }
+    ensures allowed { IfOk result (λ r. IsMachine r.0) }
+    ensures spot { IfOk result (λ r. reading.IsSpotIn text.now r.1) }
 {
     let mut lines = Lines::behind(text, Spot { offset: 0, line: 1 });
     let sofar = match read_lines(alloc, &mut lines) {
