@@ -48,7 +48,7 @@ fn blocks(
 }
 
 /// The naive code of a unit (docs/LANGUAGE.md, "Naive code"), or want of memory. The time is linear in the unit.
-#[tactic(auto, using(crate::proofs::Units::unit_fits))]
+#[tactic(auto, using(crate::proofs::Units::unit_fits, crate::proofs::Sound::cut_good, crate::proofs::Places::number_below))]
 pub fn expand(alloc: Global, u: &Unit) -> Result<UnitCode, OutOfMemory>
     requires { IsUnit u.now }
     ensures { IfOk result (λ c. unit_of c ≡ naive u.now) }
