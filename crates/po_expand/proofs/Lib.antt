@@ -6,3 +6,5 @@ pub mod Recognised
 pub mod Cutting
 pub mod Places
 pub mod Sound
+pub mod Pieces
+pub mod Codes
