@@ -1,11 +1,12 @@
 -- A unit's naive code has what every code has.
-use Rattle.std.proofs.Common.{◌≡◌, ℕ, ◌+◌, ◌*◌, ◌<◌, ◌≤◌, true, List, [], ◌∷◌, ◌++◌, length, refl, sym, ◌∙◌, ap, subst, arith}
+use Rattle.std.proofs.Common.{◌≡◌, ℕ, ◌+◌, ◌*◌, ◌<◌, ◌≤◌, true, List, [], ◌∷◌, ◌++◌, length, length-append, refl, sym, ◌∙◌, ap, subst, arith}
 use Rattle.std.specs.Prelude.{All, AllPairs, None, ⊤, ◌^◌, ◌≢◌}
 use Rattle.std.specs.List.{flat_map, AllByRecursion}
 use Rattle.std.proofs.lemmas.List.Elements.{All-weaker, recursion_from_All}
 use Rattle.po_term.specs.Form.{WellFormed}
 use Rattle.po_lines.specs.NameList.{has}
 use Rattle.po_ir.specs.declared.unit.Op.{Op}
+use Rattle.po_ir.specs.declared.unit.Op.TheVariants as op
 use Rattle.po_ir.specs.declared.unit.Unit.{Unit as StackUnit}
 use Rattle.po_ir.specs.Ops.{label_in, labels_of, target_in}
 use Rattle.po_ir.specs.Units.{IsOp, IsUnit}
@@ -43,18 +44,50 @@ module _ (labels syms : List Text) where
   )
 
 -- an operation names at most one label, and one symbol
-labels_few : (os : List Op) → length (labels_of os) ≤ length os
-labels_few os = ?
+flat_few : (f : Op → List Text) → ((o : Op) → length (f o) ≤ 1) → (os : List Op) → length (flat_map f os) ≤ length os
+flat_few f h [] = omega arith
+flat_few f h (o ∷ os) = omega (arith, h o, flat_few f h os, length-append (f o) (flat_map f os))
 
-syms_few : (os : List Op) → length (flat_map sym_in os) ≤ length os
-syms_few os = ?
+one_label : (o : Op) → length (label_in o) ≤ 1
+one_label (op.Con n) = omega arith
+one_label (op.Adl n) = omega arith
+one_label (op.Adg s) = omega arith
+one_label op.Lod = omega arith
+one_label op.Sto = omega arith
+one_label (op.Bin o) = omega arith
+one_label (op.Un o) = omega arith
+one_label op.Dup = omega arith
+one_label op.Pop = omega arith
+one_label (op.Lab l) = omega arith
+one_label (op.Jmp l) = omega arith
+one_label (op.Br r l) = omega arith
+one_label (op.Arg k) = omega arith
+one_label (op.Call f n) = omega arith
+one_label op.Ret = omega arith
+
+one_sym : (o : Op) → length (sym_in o) ≤ 1
+one_sym (op.Con n) = omega arith
+one_sym (op.Adl n) = omega arith
+one_sym (op.Adg s) = omega arith
+one_sym op.Lod = omega arith
+one_sym op.Sto = omega arith
+one_sym (op.Bin o) = omega arith
+one_sym (op.Un o) = omega arith
+one_sym op.Dup = omega arith
+one_sym op.Pop = omega arith
+one_sym (op.Lab l) = omega arith
+one_sym (op.Jmp l) = omega arith
+one_sym (op.Br r l) = omega arith
+one_sym (op.Arg k) = omega arith
+one_sym (op.Call f n) = omega arith
+one_sym op.Ret = omega arith
 
 pub unit_code : (u : StackUnit) → IsUnit u → IsUnitCode (naive u)
 unit_code u h =
     let labels = each_once (labels_of u.ops) in
     let syms = each_once (flat_map sym_in u.ops) in
-    let few_labels : length labels ≤ 2 ^ 32 = omega (arith, once_few (labels_of u.ops), labels_few u.ops, h.few) in
-    let few_syms : length syms ≤ 2 ^ 32 = omega (arith, once_few (flat_map sym_in u.ops), syms_few u.ops, h.few) in
+    let few_labels : length labels ≤ 2 ^ 32 = omega (arith, once_few (labels_of u.ops), flat_few label_in one_label u.ops, h.few) in
+    let few_syms : length syms ≤ 2 ^ 32 = omega (arith, once_few (flat_map sym_in u.ops), flat_few sym_in one_sym u.ops, h.few) in
     let known = knows labels syms u.ops (recursion_from_All IsOp u.ops h.each)
         (recursion_from_All (λ l. has l labels ≡ true) (labels_of u.ops) (all_once (labels_of u.ops) (labels_of u.ops) (all_has (labels_of u.ops))))
         (recursion_from_All (λ l. has l labels ≡ true) (flat_map target_in u.ops) (all_once (labels_of u.ops) (flat_map target_in u.ops) h.targets))
