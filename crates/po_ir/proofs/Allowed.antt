@@ -1,8 +1,7 @@
 -- What is read is allowed.
-use Rattle.std.proofs.Common.{◌≡◌, ◌≢◌, ℕ, suc, ◌+◌, ◌≤◌, ◌<◌, List, [], ◌∷◌, ◌++◌, Bool, true, false, Result, Ok, Err, Option, Some, None, refl, ap, sym, ◌∙◌, subst, map, length, arith, inl, inr, append_assoc, append-nil, length-append, All}
+use Rattle.std.proofs.Common.{◌≡◌, ◌≢◌, ℕ, suc, ◌≤◌, ◌<◌, List, [], ◌∷◌, ◌++◌, Bool, true, false, Result, Ok, Err, Option, Some, None, refl, ap, sym, ◌∙◌, subst, map, length, arith, inl, inr, append_assoc, append-nil, length-append, All}
 use Rattle.std.specs.Prelude.{AllPairs, cond, ◌==◌, ◌||◌, not, find, IfOk, IsTrue, ⊤}
-use Rattle.std.specs.List.{flat_map, list_any, AllByRecursion}
-use Rattle.std.specs.Cmp.Lexicographic.{pointwise}
+use Rattle.std.specs.List.{flat_map}
 use Rattle.std.proofs.lemmas.Bool.Decides.{nat_tests}
 use Rattle.std.proofs.lemmas.Cmp.{nat_list_eq_equiv}
 use Rattle.std.proofs.lemmas.List.Elements.{All-nil, All-cons, All-head, All-tail, All-push, All-same}
@@ -10,7 +9,7 @@ use Rattle.std.proofs.lemmas.List.Kept.{AllPairs-cons}
 use Rattle.po_name.specs.Names.{is_name}
 use Rattle.po_lines.specs.Lines.{Numbered}
 use Rattle.po_text.specs.declared.fault.TextRefusal.{TextRefusal}
-use Rattle.po_lines.specs.Faults.{◌>>=◌, TextFault, Gets}
+use Rattle.po_lines.specs.Faults.{Gets}
 use Rattle.po_lines.specs.NameList.{has}
 use Rattle.po_lines.specs.Leaves.{same}
 use Rattle.po_lines.specs.Reading.{read_each}
@@ -23,7 +22,7 @@ use Rattle.po_ir.specs.Faults.{decided, misses, repeats}
 use Rattle.po_ir.specs.Units.{IsOp, Follow, IsUnit, NamesDiffer}
 use Rattle.po_ir.specs.Reading.{Open, Sofar, jumps_in, unit_name, step, nothing_yet, finish, units_in}
 use Rattle.po_ir.proofs.OpLaws.{op_allowed}
-use Rattle.po_ir.proofs.StepLaws.{open_at, not_none, Turn, quiet, begins, continues, ends, turn_of}
+use Rattle.po_ir.proofs.StepLaws.{not_none, Turn, quiet, begins, continues, ends, turn_of}
 
 abbrev pub label_of : Jump → List ℕ
 label_of j = j.label

@@ -1,7 +1,7 @@
 -- A line of a form is read as what the form says.
-use Rattle.std.proofs.Common.{◌≡◌, ℕ, ◌+◌, ◌≤◌, List, [], ◌∷◌, ◌++◌, Bool, true, false, Result, Ok, Err, Option, Some, None, refl, ap, sym, ◌∙◌, subst, map, length, arith}
-use Rattle.std.specs.Prelude.{codes, cond, nat_eq, nat_lt, ◌==◌, find, ⊤}
-use Rattle.std.specs.List.{starts_with, list_any}
+use Rattle.std.proofs.Common.{◌≡◌, ℕ, ◌+◌, ◌≤◌, List, [], ◌∷◌, ◌++◌, true, false, Result, Ok, Some, None, refl, ap, sym, ◌∙◌, subst, map, length, arith}
+use Rattle.std.specs.Prelude.{codes, nat_eq, nat_lt, ◌==◌, find}
+use Rattle.std.specs.List.{starts_with}
 use Rattle.std.proofs.lemmas.Bool.Decides.{nat_tests}
 use Rattle.po_word.specs.declared.operator.Bin.TheVariants as bin
 use Rattle.po_word.specs.declared.operator.Un.TheVariants as un
@@ -9,8 +9,8 @@ use Rattle.po_word.specs.declared.operator.Rel.TheVariants as rel
 use Rattle.po_name.specs.Names.{is_name}
 use Rattle.po_lines.specs.Words.{Placed, line_words, words_in}
 use Rattle.po_lines.specs.Lines.{Numbered}
-use Rattle.po_lines.specs.Faults.{◌>>=◌, TextFault, at_line}
-use Rattle.po_lines.specs.Forms.{says_nothing, no_more}
+use Rattle.po_lines.specs.Faults.{TextFault}
+use Rattle.po_lines.specs.Forms.{says_nothing}
 use Rattle.po_lines.specs.Leaves.{same}
 use Rattle.po_lines.specs.NameList.{has}
 use Rattle.po_ir.specs.declared.unit.Op.{Op}
@@ -20,10 +20,10 @@ use Rattle.po_ir.specs.declared.unit.Key.TheVariants as key
 use Rattle.po_ir.specs.declared.unit.Unit.{Unit as StackUnit}
 use Rattle.po_ir.specs.Keys.{key_text, bin_of, un_of, rel_of, plain_of, key_of_word}
 use Rattle.po_ir.specs.Ops.{key_of, labels_of, target_in, ends_well}
-use Rattle.po_ir.specs.Lines.{op_in, second_column}
+use Rattle.po_ir.specs.Lines.{second_column}
 use Rattle.po_ir.specs.Faults.{decided, misses, end_fault}
 use Rattle.po_ir.specs.Grammar.{IsArgument, IsOpLine, word_bytes, texts_of, is_silent}
-use Rattle.po_ir.specs.Reading.{Open, Sofar, unless, jumps_in, with_op, op_line, may_end, closed, key_line, inside_line, unit_name, begun_with, outside_line, some_line, words_line, step}
+use Rattle.po_ir.specs.Reading.{Open, Sofar, jumps_in, with_op, op_line, closed, key_line, inside_line, unit_name, begun_with, outside_line, some_line, words_line, step}
 use Rattle.po_ir.proofs.OpLaws.{op_again, name_alone_again, no_more_again}
 use Rattle.po_ir.proofs.StepLaws.{open_at}
 use Rattle.po_ir.proofs.Allowed.{label_of, labels_append, jump_labels}

@@ -1,11 +1,10 @@
 -- What is read as an operation has its form, and what has the form is read as it.
-use Rattle.std.proofs.Common.{◌≡◌, ℕ, suc, ◌≤◌, ◌<◌, ◌^◌, List, [], ◌∷◌, Bool, true, false, Result, Ok, Err, Option, Some, None, refl, ap, sym, ◌∙◌, subst, map, arith}
-use Rattle.std.specs.Prelude.{ℤ, pos, negsuc, ◌≤ℤ◌, unsigned_abs, int_le, IsTrue, ⊤}
+use Rattle.std.proofs.Common.{◌≡◌, ℕ, ◌≤◌, ◌<◌, ◌^◌, List, [], ◌∷◌, true, Ok, Err, Some, refl, ap, sym, ◌∙◌, subst, map, arith}
+use Rattle.std.specs.Prelude.{ℤ, pos, negsuc, ◌≤ℤ◌, unsigned_abs, int_le, ⊤}
 use Rattle.std.proofs.lemmas.Int.{ints}
 use Rattle.po_word.specs.Words.{word_of}
 use Rattle.po_text.specs.Number.{number_of}
 use Rattle.po_name.specs.Names.{is_name}
-use Rattle.po_lines.specs.declared.fault.LineFault.{LineFault}
 use Rattle.po_lines.specs.Words.{Placed}
 use Rattle.po_lines.specs.Faults.{◌>>=◌}
 use Rattle.po_lines.specs.Leaves.{name_in, number_in, word_number_in, small_number_in}

@@ -1,6 +1,6 @@
 -- A printed unit is read as itself.
-use Rattle.std.proofs.Common.{◌≡◌, ℕ, suc, ◌+◌, ◌-◌, ◌≤◌, ◌<◌, ◌^◌, List, [], ◌∷◌, ◌++◌, Bool, true, false, Result, Ok, Some, refl, ap, sym, ◌∙◌, subst, map, length, take, drop, get_or, arith, append_assoc, length-append, All}
-use Rattle.std.specs.Prelude.{ℤ, pos, negsuc, ◌≤ℤ◌, codes, cond, ◌==◌, ◌&&◌, nat_eq, nat_le, nat_lt, slice_index, IsTrue, ⊤}
+use Rattle.std.proofs.Common.{◌≡◌, ℕ, suc, ◌+◌, ◌-◌, ◌≤◌, ◌<◌, ◌^◌, List, [], ◌∷◌, ◌++◌, Bool, true, false, Ok, Some, refl, ap, sym, ◌∙◌, subst, map, length, arith, append_assoc, length-append, All}
+use Rattle.std.specs.Prelude.{ℤ, pos, negsuc, ◌≤ℤ◌, codes, ◌==◌, ◌&&◌, nat_eq, nat_le, nat_lt, slice_index}
 use Rattle.std.specs.Char.{is_ascii_digit}
 use Rattle.std.specs.Int.{w32}
 use Rattle.std.specs.Fmt.{decimal, signed_decimal}
@@ -12,16 +12,14 @@ use Rattle.std.proofs.lemmas.Int.{ints, of_z-to_z}
 use Rattle.std.proofs.lemmas.List.Elements.{All-nil, All-cons, All-from_recursion, recursion_from_All}
 use Rattle.std.proofs.lemmas.List.Folds.{list_all-append}
 use Rattle.std.proofs.lemmas.List.Splits.{slice_split_at}
-use Rattle.po_word.specs.Words.{signed, word_of}
+use Rattle.po_word.specs.Words.{signed}
 use Rattle.po_word.specs.declared.operator.Bin.TheVariants as bin
 use Rattle.po_word.specs.declared.operator.Un.TheVariants as un
 use Rattle.po_word.specs.declared.operator.Rel.TheVariants as rel
-use Rattle.po_text.specs.declared.fault.Spot.{Spot}
 use Rattle.po_text.specs.Number.{number_of}
 use Rattle.po_text.specs.Words.{is_blank}
 use Rattle.po_name.specs.Names.{is_name, is_name_byte, begins_name}
-use Rattle.po_lines.specs.Lines.{Numbered, is_feed, lines_at, lines_from, lines_behind}
-use Rattle.po_lines.specs.Words.{words_in}
+use Rattle.po_lines.specs.Lines.{Numbered, is_feed, lines_at, lines_from}
 use Rattle.po_lines.proofs.NumberLaws.{own, printed_again}
 use Rattle.po_lines.proofs.WordLaws.{IsSolid, words_again}
 use Rattle.po_ir.specs.declared.unit.Op.{Op}
@@ -30,11 +28,10 @@ use Rattle.po_ir.specs.declared.unit.Key.{Key}
 use Rattle.po_ir.specs.declared.unit.Key.TheVariants as key
 use Rattle.po_ir.specs.declared.unit.Unit.{Unit as StackUnit}
 use Rattle.po_ir.specs.Keys.{key_text}
-use Rattle.po_ir.specs.Ops.{key_of}
-use Rattle.po_ir.specs.Units.{IsOp, IsUnit, NamesDiffer}
-use Rattle.po_ir.specs.Grammar.{IsWordNumber, IsArgument, IsOpLine, IsShort, word_bytes, texts_of, is_silent, said, AreLinesOf, IsUnits}
+use Rattle.po_ir.specs.Units.{IsOp, IsUnit}
+use Rattle.po_ir.specs.Grammar.{IsWordNumber, IsArgument, IsOpLine, IsShort, texts_of, is_silent, said, IsUnits}
 use Rattle.po_ir.specs.Printing.{number_text, argument_words, op_words, unit_words, line_text, unit_text}
-use Rattle.po_ir.specs.Reading.{units_in, units_behind}
+use Rattle.po_ir.specs.Reading.{units_behind}
 use Rattle.po_ir.proofs.LineLaws.{key_facts}
 use Rattle.po_ir.proofs.TextLaws.{units_again}
 

@@ -1,7 +1,7 @@
 -- What one line does to what was read so far.
 use Rattle.std.proofs.Common.{◌≡◌, ℕ, ◌+◌, ◌≤◌, List, [], ◌∷◌, ◌++◌, Bool, true, false, Result, Ok, Err, Option, Some, None, refl, ap, sym, ◌∙◌, subst, map, length, arith, inl, inr}
-use Rattle.std.specs.Prelude.{codes, cond, nat_eq, nat_lt, ◌==◌, find, option_map, ⊤}
-use Rattle.std.specs.List.{starts_with, list_any}
+use Rattle.std.specs.Prelude.{codes, cond, nat_eq, nat_lt, ◌==◌, find, option_map}
+use Rattle.std.specs.List.{starts_with}
 use Rattle.std.specs.Cmp.Lexicographic.{same_text}
 use Rattle.std.proofs.lemmas.Bool.Decides.{nat_tests}
 use Rattle.po_word.specs.declared.operator.Bin.{Bin}
@@ -11,7 +11,7 @@ use Rattle.po_name.specs.Names.{is_name}
 use Rattle.po_lines.specs.declared.fault.LineFault.{LineFault}
 use Rattle.po_lines.specs.Words.{Placed, line_words, words_in}
 use Rattle.po_lines.specs.Lines.{Numbered}
-use Rattle.po_lines.specs.Faults.{◌>>=◌, TextFault, at_line}
+use Rattle.po_lines.specs.Faults.{at_line}
 use Rattle.po_lines.specs.Forms.{says_nothing, no_more, name_alone}
 use Rattle.po_lines.specs.Leaves.{same}
 use Rattle.po_lines.specs.NameList.{has}
@@ -25,9 +25,9 @@ use Rattle.po_ir.specs.Keys.{key_text, bin_text, un_text, rel_text, bins, uns, r
 use Rattle.po_ir.specs.Ops.{key_of, labels_of, ends_well}
 use Rattle.po_ir.specs.Lines.{op_in, second_column}
 use Rattle.po_ir.specs.Faults.{decided, misses, end_fault}
-use Rattle.po_ir.specs.Grammar.{IsArgument, IsOpLine, word_bytes, texts_of, is_silent}
+use Rattle.po_ir.specs.Grammar.{IsOpLine, word_bytes, texts_of, is_silent}
 use Rattle.po_ir.specs.Reading.{Open, Sofar, unless, jumps_in, with_op, op_line, may_end, closed, key_line, inside_line, unit_name, begun_with, outside_line, some_line, words_line, step}
-use Rattle.po_ir.proofs.OpLaws.{op_found, op_again, name_alone_found, name_alone_again, no_more_found, no_more_again}
+use Rattle.po_ir.proofs.OpLaws.{op_found, name_alone_found, no_more_found}
 
 abbrev pub open_at : List StackUnit → List ℕ → List Op → List Jump → Sofar
 open_at us name os js = record { units = us; inside = Some (record { name = name; ops = os; jumps = js }) }

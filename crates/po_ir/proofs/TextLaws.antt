@@ -1,14 +1,12 @@
 -- Lines that write units are read as these units, and what is read as units is written by the lines.
 use Rattle.std.proofs.Common.{◌≡◌, ◌≢◌, ℕ, zero, suc, ◌+◌, ◌≤◌, ◌<◌, List, [], ◌∷◌, ◌++◌, Bool, true, false, Result, Ok, Err, Option, Some, None, refl, ap, sym, ◌∙◌, subst, map, length, arith, append_assoc, append-nil, length-append, All, get_or}
-use Rattle.std.specs.Prelude.{AllPairs, codes, cond, ◌==◌, ◌||◌, not, nat_eq, find, IfOk, IsTrue, ⊤}
-use Rattle.std.specs.List.{AllZip, flat_map, filter, starts_with, list_any}
-use Rattle.std.specs.Cmp.Lexicographic.{pointwise}
+use Rattle.std.specs.Prelude.{codes, ◌==◌, find, IfOk, IsTrue, ⊤}
+use Rattle.std.specs.List.{AllZip, flat_map}
 use Rattle.std.proofs.lemmas.Bool.Decides.{nat_tests}
 use Rattle.std.proofs.lemmas.List.Elements.{All-nil, All-cons, All-head, All-tail, All-same}
-use Rattle.po_name.specs.Names.{is_name}
 use Rattle.po_lines.specs.Lines.{Numbered}
 use Rattle.po_text.specs.declared.fault.TextRefusal.{TextRefusal}
-use Rattle.po_lines.specs.Faults.{◌>>=◌, TextFault, Gets}
+use Rattle.po_lines.specs.Faults.{TextFault, Gets}
 use Rattle.po_lines.specs.NameList.{has}
 use Rattle.po_lines.specs.Leaves.{same}
 use Rattle.po_lines.specs.Reading.{read_each}
@@ -16,15 +14,14 @@ use Rattle.po_lines.proofs.Results.{bind_ok, ok_is, not_ok}
 use Rattle.po_ir.specs.declared.unit.Op.{Op}
 use Rattle.po_ir.specs.declared.unit.Jump.{Jump}
 use Rattle.po_ir.specs.declared.unit.Unit.{Unit as StackUnit}
-use Rattle.po_ir.specs.Keys.{key_text}
-use Rattle.po_ir.specs.Ops.{key_of, labels_of, target_in, ends_well}
-use Rattle.po_ir.specs.Faults.{decided, misses}
-use Rattle.po_ir.specs.Units.{IsOp, Follow, IsUnit, NamesDiffer}
+use Rattle.po_ir.specs.Ops.{key_of, labels_of, target_in}
+use Rattle.po_ir.specs.Faults.{misses}
+use Rattle.po_ir.specs.Units.{Follow, IsUnit, NamesDiffer}
 use Rattle.po_ir.specs.Grammar.{IsOpLine, texts_of, is_silent, said, AreLinesOf, IsShort, IsUnits}
 use Rattle.po_ir.specs.Reading.{Open, Sofar, jumps_in, unit_name, step, nothing_yet, finish, units_in}
 use Rattle.po_ir.proofs.StepLaws.{open_at, same_is, Turn, quiet, begins, continues, ends, turn_of}
 use Rattle.po_ir.proofs.Allowed.{label_of, any_column, targets_next, AreAllowed, units_allowed}
-use Rattle.po_ir.proofs.LineLaws.{key_facts, silent_again, GoesOn, op_step_again, begin_again, end_again}
+use Rattle.po_ir.proofs.LineLaws.{key_facts, silent_again, op_step_again, begin_again, end_again}
 
 said_less : (l : Numbered) (ls : List Numbered) → is_silent (texts_of l) ≡ true → said (l ∷ ls) ≡ said ls
 said_less l ls e = rw e refl

@@ -51,6 +51,7 @@ IsArgument op.Ret ws = ws ≡ []
 abbrev pub IsOpLine : List (List ℕ) → Op → Type 0
 IsOpLine ws o = (rest : List (List ℕ)) × IsArgument o rest × (ws ≡ key_text (key_of o) ∷ rest)
 
+-- a word without its column
 abbrev pub word_bytes : Placed → List ℕ
 word_bytes w = w.bytes
 

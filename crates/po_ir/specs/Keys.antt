@@ -56,6 +56,7 @@ key_text (key.Bin o) = bin_text o
 key_text (key.Un o) = un_text o
 key_text (key.Br r) = rel_text r
 
+-- all operators of two values
 abbrev pub bins : List Bin
 bins = bin.Add ∷ bin.Sub ∷ bin.Mul ∷ bin.And ∷ bin.Or ∷ bin.Xor ∷ bin.Shl ∷ bin.Shr ∷ bin.Sar ∷ []
 
@@ -63,6 +64,7 @@ bins = bin.Add ∷ bin.Sub ∷ bin.Mul ∷ bin.And ∷ bin.Or ∷ bin.Xor ∷ bi
 unfoldable pub bin_of : List ℕ → Option Bin
 bin_of w = find (λ o. same w (bin_text o)) bins
 
+-- all operators of one value
 abbrev pub uns : List Un
 uns = un.Neg ∷ un.Not ∷ []
 
@@ -70,6 +72,7 @@ uns = un.Neg ∷ un.Not ∷ []
 unfoldable pub un_of : List ℕ → Option Un
 un_of w = find (λ o. same w (un_text o)) uns
 
+-- all branches
 abbrev pub rels : List Rel
 rels = rel.Eq ∷ rel.Ne ∷ rel.Lt ∷ rel.Le ∷ rel.Gt ∷ rel.Ge ∷ rel.Ltu ∷ rel.Geu ∷ []
 
