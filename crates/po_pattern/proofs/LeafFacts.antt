@@ -1,6 +1,6 @@
 -- Digits, numbers and registers that are read.
-use Rattle.std.proofs.Common.{◌≡◌, ℕ, ◌+◌, ◌-◌, ◌<◌, ◌≤◌, ◌^◌, List, [], ◌∷◌, Bool, true, false, Result, Ok, Err, Option, Some, None, refl, arith, IfOk, length}
-use Rattle.std.specs.Prelude.{⊤, IfSome, ℤ, pos, negsuc, int_le, ◌≤ℤ◌, nat_le, nat_eq, ◌&&◌, ◌==◌, cond, codes}
+use Rattle.std.proofs.Common.{◌≡◌, ℕ, ◌-◌, ◌<◌, ◌^◌, List, [], ◌∷◌, Bool, true, Option, Some, None, arith, IfOk}
+use Rattle.std.specs.Prelude.{⊤, IfSome, ℤ, pos, negsuc, int_le, ◌≤ℤ◌, ◌&&◌, ◌==◌, cond, codes}
 use Rattle.std.proofs.lemmas.Bool.Decides.{nat_tests}
 use Rattle.std.proofs.lemmas.Int.{ints}
 use Rattle.po_word.specs.Words.{word_of}
@@ -8,8 +8,6 @@ use Rattle.po_text.specs.Number.{number_of}
 use Rattle.po_name.specs.Names.{is_digit}
 use Rattle.po_term.specs.declared.term.Reg.{Reg}
 use Rattle.po_model.specs.declared.machine.PatReg.{PatReg}
-use Rattle.po_lines.specs.declared.fault.LineFault.{LineFault}
-use Rattle.po_lines.specs.Faults.{◌>>=◌}
 use Rattle.po_lines.specs.Words.{Placed}
 use Rattle.po_lines.specs.Leaves.{same, bounded, number_in, signed_number_in}
 use Rattle.po_pattern.specs.declared.operands.Operands.{Operands}

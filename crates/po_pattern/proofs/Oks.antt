@@ -1,6 +1,6 @@
 -- A fact of what is read, through the steps of a `do` and of a choice.
-use Rattle.std.proofs.Common.{◌≡◌, ℕ, Bool, true, false, Result, Ok, Err, Option, Some, None, refl, subst, ◌&&◌, ◌≤◌, IfOk}
-use Rattle.std.specs.Prelude.{⊤, cond, nat_le, nat_eq, IfSome, ℤ, int_le, ◌≤ℤ◌}
+use Rattle.std.proofs.Common.{◌≡◌, Bool, true, false, Result, Ok, Err, Option, refl, subst, ◌&&◌, IfOk}
+use Rattle.std.specs.Prelude.{cond, IfSome}
 use Rattle.po_lines.specs.declared.fault.LineFault.{LineFault}
 use Rattle.po_lines.specs.Faults.{◌>>=◌}
 use Rattle.po_pattern.specs.declared.operands.Operands.{Operands}

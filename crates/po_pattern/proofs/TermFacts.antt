@@ -1,6 +1,6 @@
 -- Terms that are read are within the limits, and their parts are as they should be.
-use Rattle.std.proofs.Common.{◌≡◌, ℕ, zero, suc, ◌+◌, ◌-◌, ◌<◌, ◌≤◌, ◌^◌, List, [], ◌∷◌, Bool, true, false, Result, Ok, Err, Option, Some, None, refl, sym, ap, subst, arith, IfOk, length}
-use Rattle.std.specs.Prelude.{⊤, IfSome, nat_le, ◌&&◌, ◌==◌, cond, max, ℤ, codes}
+use Rattle.std.proofs.Common.{◌≡◌, ℕ, zero, suc, ◌+◌, ◌<◌, ◌≤◌, List, [], ◌∷◌, true, Option, Some, None, refl, sym, subst, arith, IfOk, length}
+use Rattle.std.specs.Prelude.{⊤, IfSome, nat_le, ◌&&◌, ◌==◌, max, ℤ, codes}
 use Rattle.std.proofs.lemmas.Bool.Decides.{nat_tests}
 use Rattle.po_word.specs.declared.operator.Un.{Un}
 use Rattle.po_word.specs.declared.operator.Bin.{Bin}
@@ -12,8 +12,6 @@ use Rattle.po_model.specs.declared.machine.PatTerm.TheFolds.{fold-roll-PatTerm}
 use Rattle.po_model.specs.declared.machine.PatTerm.TheVariants as pat
 use Rattle.po_model.specs.declared.machine.PatTerm.TheOpen.{PatTerm-F}
 use Rattle.po_model.specs.Patterns.{Exactly, Operand, InPatReg, AtSymbol, PatTree, layer_of, pattern_of}
-use Rattle.po_lines.specs.declared.fault.LineFault.{LineFault}
-use Rattle.po_lines.specs.Faults.{◌>>=◌}
 use Rattle.po_pattern.specs.declared.operands.Operands.{Operands}
 use Rattle.po_pattern.specs.declared.part.Part.{Part}
 use Rattle.po_pattern.specs.declared.part.Frame.{Frame}
@@ -29,7 +27,7 @@ use Rattle.po_pattern.specs.Terms.{Reading}
 use Rattle.po_lines.specs.Leaves.{same}
 use Rattle.po_word.specs.Words.{word_of}
 use Rattle.po_pattern.proofs.LeafFacts.{operand_digit, IsNumber, number_is, word_fits, HasRange, range_behind_is, fixed_register_is, any_register_is}
-use Rattle.po_pattern.specs.Formed.{IsConst, IsLeaf, IsRange, IsPatReg, IsPatTree, IsPatTerm, IsKeptTerm}
+use Rattle.po_pattern.specs.Formed.{IsConst, IsLeaf, IsPatReg, IsKeptTerm}
 use Rattle.po_pattern.proofs.Oks.{ok_bind, ok_then, ok_if, ok_marked, some_if, both}
 
 -- how the plain tree of a term is made of those of its parts
@@ -82,8 +80,8 @@ at_most a b h = grind (arith, nat_tests)
 kept_is : (term : PatTerm) (t : PatTree) (size depth : ℕ) → pattern_of term ≡ t → EachConst IsConst t → EachLeaf IsLeaf t → size ≡ tree_size t → depth ≡ tree_depth t → IsKept (terms.kept term size depth)
 kept_is term t size depth same consts leaves s d = some_if IsPart (nat_le size 64 && nat_le depth 16) _ _
     (λ e. let limits = both (nat_le size 64) (nat_le depth 16) e in
-      let P : PatTree → Type 0 = λ u. IsBuilt u size depth in
-      subst P (sym same) (record { consts = consts; leaves = leaves; size = s; depth = d; few = at_most size 64 limits.0; flat = at_most depth 16 limits.1 })) tt
+    let P : PatTree → Type 0 = λ u. IsBuilt u size depth in
+    subst P (sym same) (record { consts = consts; leaves = leaves; size = s; depth = d; few = at_most size 64 limits.0; flat = at_most depth 16 limits.1 })) tt
 
 memory_is : (p : Option Part) → IsKept p → IsKept (terms.memory_part p)
 memory_is None h = tt

@@ -1,6 +1,6 @@
 -- What every term that is read has: digits below 10, words below 2 ^ 32, ranges in order within 32 bits, registers that an
 -- entry may name, at most 64 nodes and a depth of at most 16.
-use Rattle.std.specs.Prelude.{ℕ, ◌<◌, ◌≤◌, ◌^◌, ◌≡◌, ⊤, ℤ, pos, negsuc, ◌≤ℤ◌, Option, Some, None, IfSome}
+use Rattle.std.specs.Prelude.{◌<◌, ◌≤◌, ◌^◌, ⊤, ℤ, pos, negsuc, ◌≤ℤ◌, Option, Some, None, IfSome}
 use Rattle.po_term.specs.declared.term.Reg.{Reg}
 use Rattle.po_term.specs.declared.term.Reg.TheVariants.{Virt, Fp, Rv, Arg}
 use Rattle.po_term.specs.Tree.{tree_size, tree_depth, EachConst, EachLeaf}

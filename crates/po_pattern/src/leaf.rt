@@ -29,10 +29,7 @@ pub fn register<'a>(cursor: Cursor<'a>, seen: Operands) -> Result<Parsed<'a, Pat
 
 /// The same.
 #[tactic(auto, unfolding(crate::specs::Parts::register))]
-fn read_register<'a>(
-    cursor: Cursor<'a>,
-    seen: Operands,
-) -> Result<Parsed<'a, PatReg>, LineError>
+fn read_register<'a>(cursor: Cursor<'a>, seen: Operands) -> Result<Parsed<'a, PatReg>, LineError>
     ensures { Gives read_of result (parts.register (rest_of cursor.entry) seen) }
 {
     if begins(cursor.bytes, b'%') {
