@@ -71,7 +71,7 @@ only P p (suc k) d l = absurd (omega arith)
 
 small_unit : (n : List ℕ) → IsUnitCode (record { name = n; labels = []; syms = []; code = three_instrs ∷ [] })
 small_unit n = record {
-  ends_last = only (λ b. EndsLast b.instrs) (refl, refl, tt);
+  ends_last = only (λ b. EndsLast b.instrs) (refl, (refl, tt));
   formed = only (λ b. All WellFormed b.instrs) instrs_formed;
   straight = record { once = λ i j d a b. absurd (omega arith); behind = only (λ b. ReadsBehind [] b.instrs) behind_all };
   named = only (IsNamedBlock 0 0) (record { label = tt; instrs = instrs_named });
