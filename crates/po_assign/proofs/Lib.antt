@@ -5,3 +5,5 @@ pub mod Standing
 pub mod Turns
 pub mod Apart
 pub mod Formed
+pub mod Small
+pub mod Straight

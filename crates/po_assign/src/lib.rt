@@ -9,6 +9,8 @@ mod answer;
 mod place;
 mod reads;
 mod spans;
+#[cfg(test)]
+mod tests;
 mod unit;
 
 pub use answer::{AssignRefusal, Placed};
