@@ -10,6 +10,8 @@ mod names;
 mod refusal;
 mod state;
 mod step;
+#[cfg(test)]
+mod tests;
 mod unit;
 
 pub use fitting::check;
