@@ -2,3 +2,4 @@ pub mod Rooms
 pub mod Bytes
 pub mod Listed
 pub mod Told
+pub mod Leaves
