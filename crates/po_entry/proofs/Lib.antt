@@ -6,3 +6,7 @@ pub mod Leaves
 pub mod Parts
 pub mod Layers
 pub mod Terms
+pub mod Moves
+pub mod Kept
+pub mod Pieces
+pub mod Allowed

@@ -7,6 +7,7 @@ use Rattle.std.specs.Option.{option_map}
 use Rattle.std.proofs.lemmas.Bool.{and_parts}
 use Rattle.std.proofs.lemmas.List.{length-drop}
 use Rattle.po_word.specs.declared.operator.Un.{Un}
+use Rattle.po_word.specs.declared.operator.Un.TheVariants.{Neg, Not}
 use Rattle.po_word.specs.declared.operator.Bin.{Bin}
 use Rattle.po_word.specs.declared.operator.Bin.TheVariants.{Add, Sub, Mul, And, Or, Xor, Shl, Sar, Shr}
 use Rattle.po_name.specs.Names.{is_name_byte}
@@ -59,7 +60,7 @@ TurnHas (Whole part) qs = PartHas part qs
 
 abbrev pub StackHas : List Frame → List Place → Type 0
 StackHas [] qs = qs ≡ []
-StackHas (f ∷ fs) qs = (as : List Place) × (bs : List Place) × StackHas fs as × FrameHas f bs × (qs ≡ as ++ bs)
+StackHas (f ∷ fs) qs = (cs : List Place) × (bs : List Place) × StackHas fs cs × FrameHas f bs × (qs ≡ cs ++ bs)
 
 -- parts
 
@@ -85,14 +86,14 @@ unary_has o None qs h = tt
 unary_has o (Some p) qs h = kept_has (pat.Un o p.term) (Unary o (pattern_of p.term)) (p.size + 1) (p.depth + 1) qs (un_tree o p.term) h.tree.is (omega (arith, h.size)) (omega (arith, h.depth))
     (record { consts = h.tree.fine.numbers.consts; leaves = h.tree.fine.numbers.leaves })
 
-both_places : (as bs : List Place) (t u : PatTree) → as ≡ tree_places t → bs ≡ tree_places u → as ++ bs ≡ tree_places t ++ tree_places u
-both_places as bs t u e h = ap (λ (x : List Place). x ++ bs) e ∙ ap (λ (x : List Place). tree_places t ++ x) h
+both_places : (cs bs : List Place) (t u : PatTree) → cs ≡ tree_places t → bs ≡ tree_places u → cs ++ bs ≡ tree_places t ++ tree_places u
+both_places cs bs t u e h = ap (λ (x : List Place). x ++ bs) e ∙ ap (λ (x : List Place). tree_places t ++ x) h
 
-binary_has : (o : Bin) (left right : Option Part) (as bs : List Place) → PartHas left as → PartHas right bs → PartHas (binary_part o left right) (as ++ bs)
-binary_has o None right as bs h g = tt
-binary_has o (Some p) None as bs h g = tt
-binary_has o (Some p) (Some q) as bs h g = kept_has (pat.Bin o p.term q.term) (Binary o (pattern_of p.term) (pattern_of q.term)) (p.size + (q.size + 1)) (max p.depth q.depth + 1) (as ++ bs)
-    (bin_tree o p.term q.term) (both_places as bs (pattern_of p.term) (pattern_of q.term) h.tree.is g.tree.is) (omega (arith, h.size, g.size)) (omega (arith, h.depth, g.depth))
+binary_has : (o : Bin) (left right : Option Part) (cs bs : List Place) → PartHas left cs → PartHas right bs → PartHas (binary_part o left right) (cs ++ bs)
+binary_has o None right cs bs h g = tt
+binary_has o (Some p) None cs bs h g = tt
+binary_has o (Some p) (Some q) cs bs h g = kept_has (pat.Bin o p.term q.term) (Binary o (pattern_of p.term) (pattern_of q.term)) (p.size + (q.size + 1)) (max p.depth q.depth + 1) (cs ++ bs)
+    (bin_tree o p.term q.term) (both_places cs bs (pattern_of p.term) (pattern_of q.term) h.tree.is g.tree.is) (omega (arith, h.size, g.size)) (omega (arith, h.depth, g.depth))
     (record { consts = (h.tree.fine.numbers.consts, g.tree.fine.numbers.consts); leaves = (h.tree.fine.numbers.leaves, g.tree.fine.numbers.leaves) })
 
 -- what may stand where a term is wanted
@@ -124,9 +125,9 @@ opened_empty : (name : List ℕ) (f : Frame) → opening name ≡ Some f → Fra
 opened_empty name f e = elim (chosen (same name (codes "M")) _ _ _ e) [
   inl (h, is) ↦ (let here : frame.Memory ≡ f = cc in subst (λ (g : Frame). FrameHas g []) here refl)
   | inr (h, is) ↦ elim (chosen (same name (codes "neg")) _ _ _ is) [
-    inl (g, at) ↦ (let here : frame.Unary _ ≡ f = cc in subst (λ (g : Frame). FrameHas g []) here refl)
+    inl (g, at) ↦ (let here : frame.Unary Neg ≡ f = cc in subst (λ (g : Frame). FrameHas g []) here refl)
     | inr (g, at) ↦ elim (chosen (same name (codes "not")) _ _ _ at) [
-      inl (k, to) ↦ (let here : frame.Unary _ ≡ f = cc in subst (λ (g : Frame). FrameHas g []) here refl)
+      inl (k, to) ↦ (let here : frame.Unary Not ≡ f = cc in subst (λ (g : Frame). FrameHas g []) here refl)
       | inr (k, to) ↦ absurd (cc) ] ] ]
 
 named_came : (r : Rest) (seen : Operands) (x : Read Turn) (ps : List Place) (found : Option Frame) → opening (name_here r) ≡ found → named_with r seen found ≡ Ok x → Tells seen ps → Came TurnHas ps r x
@@ -196,9 +197,9 @@ operator_found left r seen qs x (Some o) h e has = subst (λ (y : Read Turn). Be
 
 behind_came : (f : Frame) (part : Option Part) (r : Rest) (seen : Operands) (x : Read Turn) (bs qs : List Place) → behind_whole f part r seen ≡ Ok x → FrameHas f bs → PartHas part qs → Behind r seen (bs ++ qs) x
 unfolding behind_whole operator
-behind_came frame.Memory part r seen x bs qs e f h = closed_behind 93 (memory_part part) r seen (bs ++ qs) x e (subst (λ (as : List Place). PartHas (memory_part part) (as ++ qs)) (sym f) (memory_has part qs h))
-behind_came (frame.Unary o) part r seen x bs qs e f h = closed_behind 41 (unary_part o part) r seen (bs ++ qs) x e (subst (λ (as : List Place). PartHas (unary_part o part) (as ++ qs)) (sym f) (unary_has o part qs h))
-behind_came frame.Left part r seen x bs qs e f h = operator_found part r seen (bs ++ qs) x (operator_of r.bytes) refl e (subst (λ (as : List Place). PartHas part (as ++ qs)) (sym f) h)
+behind_came frame.Memory part r seen x bs qs e f h = closed_behind 93 (memory_part part) r seen (bs ++ qs) x e (subst (λ (cs : List Place). PartHas (memory_part part) (cs ++ qs)) (sym f) (memory_has part qs h))
+behind_came (frame.Unary o) part r seen x bs qs e f h = closed_behind 41 (unary_part o part) r seen (bs ++ qs) x e (subst (λ (cs : List Place). PartHas (unary_part o part) (cs ++ qs)) (sym f) (unary_has o part qs h))
+behind_came frame.Left part r seen x bs qs e f h = operator_found part r seen (bs ++ qs) x (operator_of r.bytes) refl e (subst (λ (cs : List Place). PartHas part (cs ++ qs)) (sym f) h)
 behind_came (frame.Right o left) part r seen x bs qs e f h = closed_behind 41 (binary_part o left part) r seen (bs ++ qs) x e (binary_has o left part bs qs f h)
 
 -- one part more
@@ -238,17 +239,17 @@ stepped ps [] (Whole part) r seen t e g =
     })
 stepped ps (f ∷ fs) (Whole part) r seen t e g =
     let p = bind_ok (behind_whole f part (skip_blanks r) seen) _ t e in
-    let as = g.stack.0 in
+    let cs = g.stack.0 in
     let bs = g.stack.1 in
     let came = behind_came f part (skip_blanks r) seen p.0 bs g.inner p.1 g.stack.3 g.turn in
-    let same : g.outer ++ g.inner ≡ as ++ (bs ++ g.inner) = ap (λ (x : List Place). x ++ g.inner) g.stack.4 ∙ append_assoc as bs g.inner in
+    let same : g.outer ++ g.inner ≡ cs ++ (bs ++ g.inner) = ap (λ (x : List Place). x ++ g.inner) g.stack.4 ∙ append_assoc cs bs g.inner in
     subst (λ (u : Reading). Stepped ps (at_turn (f ∷ fs) (Whole part) r seen) u) (ok_is p.2) (record {
       going = record {
-        outer = as;
+        outer = cs;
         inner = bs ++ g.inner;
         stack = g.stack.2;
         turn = came.has;
-        told = subst (λ (s : Operands). Tells s (ps ++ (as ++ (bs ++ g.inner)))) (sym came.noted) (subst (λ (x : List Place). Tells seen (ps ++ x)) same g.told);
+        told = subst (λ (s : Operands). Tells s (ps ++ (cs ++ (bs ++ g.inner)))) (sym came.noted) (subst (λ (x : List Place). Tells seen (ps ++ x)) same g.told);
       };
       less = inr (omega (arith, came.shorter, not_longer r));
     })
@@ -260,3 +261,61 @@ one_step ps s t e g = stepped ps s.frames s.turn.value s.turn.rest s.turn.seen t
 pub record Ended (ps : List Place) (t : Reading) : Type 0 where
   pub going : Going ps t
   pub whole : is_whole t ≡ true
+
+-- each part takes a byte, so the term is whole behind as many parts as bytes were left
+ended_from : (ps : List Place) (n : ℕ) (s t : Reading) → steps n s ≡ Ok t → (length s.turn.rest.bytes < n) ⊎ (is_whole s ≡ true) → Going ps s → Ended ps t
+unfolding steps step
+ended_from ps zero s t e (inl h) g = absurd (omega (arith, h))
+ended_from ps zero s t e (inr h) g = subst (λ (u : Reading). Ended ps u) (ok_is e) (record { going = g; whole = h })
+ended_from ps (suc n) s t e h g =
+    let p = bind_ok (step s) _ t e in
+    let next = one_step ps s p.0 p.1 g in
+    ended_from ps n p.0 t p.2 (left_over n s p.0 h (still_whole s p.0 p.1) next.less) next.going
+  where
+    left_over : (n : ℕ) (s u : Reading) → (length s.turn.rest.bytes < suc n) ⊎ (is_whole s ≡ true) → (is_whole s ≡ true → is_whole u ≡ true)
+        → (is_whole s ≡ true) ⊎ (length u.turn.rest.bytes < length s.turn.rest.bytes) → (length u.turn.rest.bytes < n) ⊎ (is_whole u ≡ true)
+    left_over n s u h w (inl k) = inr (w k)
+    left_over n s u (inr k) w (inr l) = inr (w k)
+    left_over n s u (inl k) w (inr l) = inl (omega (arith, k, l))
+    whole_on : (frames : List Frame) (turn : Turn) (r : Rest) (seen : Operands) (u : Reading) → step_with frames turn r seen ≡ Ok u → whole_with frames turn ≡ true → is_whole u ≡ true
+    whole_on frames (Opens f) r seen u e h = absurd (cc)
+    whole_on [] (Whole part) r seen u e h = subst (λ (v : Reading). is_whole v ≡ true) (ok_is e) refl
+    whole_on (f ∷ fs) (Whole part) r seen u e h = absurd (cc)
+    still_whole : (s u : Reading) → step s ≡ Ok u → is_whole s ≡ true → is_whole u ≡ true
+    still_whole s u e h = whole_on s.frames s.turn.value s.turn.rest s.turn.seen u e h
+
+-- a whole term
+
+abbrev pub TermHas : Option PatTerm → List Place → Type 0
+TermHas None qs = ⊤
+TermHas (Some t) qs = IsTreeAt (pattern_of t) qs
+
+part_term : (part : Option Part) (qs : List Place) → PartHas part qs → TermHas (option_map (λ p. p.term) part) qs
+part_term None qs h = tt
+part_term (Some p) qs h = h.tree
+
+whole_at : (ps : List Place) (frames : List Frame) (turn : Turn) (seen : Operands) (outer inner : List Place) → whole_with frames turn ≡ true → StackHas frames outer → TurnHas turn inner
+    → Tells seen (ps ++ (outer ++ inner)) → TermHas (whole_of turn) inner × Tells seen (ps ++ inner)
+whole_at ps frames (Opens f) seen outer inner w s h t = absurd (cc)
+whole_at ps [] (Whole part) seen outer inner w s h t = (part_term part inner h, subst (λ (qs : List Place). Tells seen (ps ++ (qs ++ inner))) s t)
+whole_at ps (f ∷ fs) (Whole part) seen outer inner w s h t = absurd (cc)
+
+pub term_came : (r : Rest) (seen : Operands) (x : Read (Option PatTerm)) (ps : List Place) → term r seen ≡ Ok x → Tells seen ps → (qs : List Place) × TermHas x.value qs × Tells x.seen (ps ++ qs)
+unfolding term
+term_came r seen x ps e told =
+    let p = bind_ok (wanted (skip_blanks r) seen) _ x e in
+    let q = bind_ok (steps (length r.bytes) (record { frames = []; turn = p.0 })) _ x p.2 in
+    let came = wanted_came (skip_blanks r) seen p.0 ps p.1 told in
+    let ended = ended_from ps (length r.bytes) (record { frames = []; turn = p.0 }) q.0 q.1 (inl (omega (arith, came.shorter, not_longer r)))
+        (record { outer = []; inner = came.places; stack = refl; turn = came.has; told = came.told }) in
+    let last = whole_at ps q.0.frames q.0.turn.value q.0.turn.seen ended.going.outer ended.going.inner ended.whole ended.going.stack ended.going.turn ended.going.told in
+    subst (λ (y : Read (Option PatTerm)). (qs : List Place) × TermHas y.value qs × Tells y.seen (ps ++ qs)) (ok_is q.2) (ended.going.inner, last.0, last.1)
+
+pub address_came : (r : Rest) (seen : Operands) (x : Read (Option PatTerm)) (ps : List Place) → address r seen ≡ Ok x → Tells seen ps → (qs : List Place) × TermHas x.value qs × Tells x.seen (ps ++ qs)
+unfolding address
+address_came r seen x ps e told = elim (chosen (same (name_here r) (codes "M")) _ _ _ e) [
+  inl (h, is) ↦ (let p = bind_ok (mark 91 (skip_blanks (behind (prefix_len is_name_byte r.bytes) r))) _ x is in
+    let q = bind_ok (term p.0 seen) _ x p.2 in
+    let s = bind_ok (mark 93 (skip_blanks q.0.rest)) _ x q.2 in
+    subst (λ (y : Read (Option PatTerm)). (qs : List Place) × TermHas y.value qs × Tells y.seen (ps ++ qs)) (ok_is s.2) (term_came p.0 seen q.0 ps q.1 told))
+  | inr (h, is) ↦ absurd (not_ok is) ]
