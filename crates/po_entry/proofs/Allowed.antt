@@ -58,7 +58,3 @@ entry_allowed line e h =
       clobber = mark.allowed;
       template = template_fine (places_of ms) s.0.seen t.0 u.0 u.1 told;
     })
-
-pub allowed : (line : List ℕ) (r : Result Entry LineError) → Gives (λ e. e) r (entry_in line) → IfOk r IsEntry
-allowed line (Ok e) h = entry_allowed line e h
-allowed line (Result.Err x) h = tt
