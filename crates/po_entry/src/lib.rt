@@ -12,6 +12,8 @@ mod pair;
 mod print;
 mod read;
 mod template;
+#[cfg(test)]
+mod tests;
 mod transfer;
 mod words;
 
