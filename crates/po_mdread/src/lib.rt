@@ -3,6 +3,7 @@
 //! lines before it, and the text are proved equal to definitions on lists.
 #![tactic(auto)]
 
+mod laws;
 mod line;
 mod names;
 mod print;
@@ -12,6 +13,7 @@ mod sofar;
 mod tests;
 mod tiny;
 
+pub use laws::printed_again;
 pub use print::print_machine;
 pub use read::read_machine;
 pub use tiny::TINY;
