@@ -37,7 +37,7 @@ pub record Reached (s : Sofar) (ls : List Numbered) (l : Numbered) (rest : List 
   pub here : length l.bytes ≤ 4096
   pub speaks : says_nothing (words_in l.bytes) ≡ false
 
-silent_first : (x : Numbered) (xs : List Numbered) → says_nothing (words_in x.bytes) ≡ true → said_lines (x ∷ xs) ≡ said_lines xs
+pub silent_first : (x : Numbered) (xs : List Numbered) → says_nothing (words_in x.bytes) ≡ true → said_lines (x ∷ xs) ≡ said_lines xs
 silent_first x xs h = rw h refl
 
 pub said_first : (x : Numbered) (xs : List Numbered) → says_nothing (words_in x.bytes) ≡ false → said_lines (x ∷ xs) ≡ x ∷ said_lines xs
@@ -117,10 +117,10 @@ pass s t ls (l ∷ heads) tail text names texts short e f going takes =
 abbrev pub with_entries : Machine → List Entry → Machine
 with_entries m es = record { name = m.name; frame = m.frame; result = m.result; args = m.args; regs = m.regs; entries = m.entries ++ es }
 
-no_entries : (m : Machine) → with_entries m [] ≡ m
+pub no_entries : (m : Machine) → with_entries m [] ≡ m
 no_entries m = ap (λ (es : List Entry). let n : Machine = record { name = m.name; frame = m.frame; result = m.result; args = m.args; regs = m.regs; entries = es } in n) (append-nil m.entries)
 
-more_entries : (m : Machine) (e : Entry) (es : List Entry) → with_entries (with_entry m e) es ≡ with_entries m (e ∷ es)
+pub more_entries : (m : Machine) (e : Entry) (es : List Entry) → with_entries (with_entry m e) es ≡ with_entries m (e ∷ es)
 more_entries m e es = ap (λ (xs : List Entry). let n : Machine = record { name = m.name; frame = m.frame; result = m.result; args = m.args; regs = m.regs; entries = xs } in n) (append_assoc m.entries (e ∷ []) es)
 
 insn_step : (m : Machine) (l : Numbered) (e : Entry) (ws : List Placed) → words_in l.bytes ≡ ws → BeginsWith (codes "insn") (map bytes_of ws) → length l.bytes ≤ 4096 → says_nothing (words_in l.bytes) ≡ false

@@ -12,3 +12,4 @@ pub mod Described
 pub mod PrintedLines
 pub mod PrintedNames
 pub mod Printed
+pub mod Written

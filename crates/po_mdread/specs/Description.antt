@@ -1,6 +1,7 @@
 -- The lines that describe a machine, by their forms. Lines that say nothing may stand between them.
 use Rattle.std.specs.Prelude.{◌≡◌, ◌≤◌, ℕ, List, [], ◌∷◌, ◌++◌, length, map, filter, not, codes, Ok, ⊤}
 use Rattle.std.specs.List.{AllByRecursion}
+use Rattle.po_text.specs.declared.fault.Spot.{Spot}
 use Rattle.po_lines.specs.Forms.{says_nothing}
 use Rattle.po_lines.specs.Lines.{Numbered}
 use Rattle.po_lines.specs.Words.{words_in}
@@ -8,6 +9,7 @@ use Rattle.po_model.specs.declared.machine.Entry.{Entry}
 use Rattle.po_model.specs.declared.machine.Machine.{Machine}
 use Rattle.po_model.specs.Machines.{IsMachine}
 use Rattle.po_entry.specs.Reading.{entry_in}
+use Rattle.po_mdread.specs.Reading.{behind}
 
 -- the lines that say something
 abbrev pub said_lines : List Numbered → List Numbered
@@ -54,3 +56,12 @@ pub record IsDescription (lines : List Numbered) (m : Machine) (last : Numbered)
   pub insn_lines : AreInsnLines insns m.entries
   pub end_line : line_texts last ≡ codes "end" ∷ []
   pub allowed : IsMachine m
+
+-- these lines begin with a description of the machine, and `at` is the place behind it
+pub record BeginWith (lines : List Numbered) (m : Machine) (at : Spot) : Type 0 where
+  pub front : List Numbered
+  pub back : List Numbered
+  pub last : Numbered
+  pub cut : lines ≡ front ++ back
+  pub describe : IsDescription front m last
+  pub place : at ≡ behind last

@@ -13,7 +13,7 @@ mod sofar;
 mod tests;
 mod tiny;
 
-pub use laws::printed_again;
+pub use laws::{printed_again, what_is_described};
 pub use print::print_machine;
 pub use read::read_machine;
 pub use tiny::TINY;
