@@ -1,0 +1,12 @@
+pub mod Rooms
+pub mod Bytes
+pub mod Listed
+pub mod Told
+pub mod Leaves
+pub mod Parts
+pub mod Layers
+pub mod Terms
+pub mod Moves
+pub mod Kept
+pub mod Pieces
+pub mod Allowed
