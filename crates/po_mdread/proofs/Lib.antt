@@ -6,3 +6,10 @@ pub mod Spots
 pub mod Steps
 pub mod Allowed
 pub mod Joined
+pub mod Again
+pub mod New
+pub mod Described
+pub mod PrintedLines
+pub mod PrintedNames
+pub mod Printed
+pub mod Written

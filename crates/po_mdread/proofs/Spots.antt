@@ -68,7 +68,7 @@ either : (b : Bool) → (b ≡ true) ⊎ (b ≡ false)
 either true = inl refl
 either false = inr refl
 
-none_read : (s : Sofar) (t : Sofar) → read_each step s [] ≡ Ok t → s ≡ t
+pub none_read : (s : Sofar) (t : Sofar) → read_each step s [] ≡ Ok t → s ≡ t
 unfolding read_each
 none_read s t e = ok_is e
 
@@ -76,11 +76,11 @@ one_read : (s t : Sofar) (l : Numbered) → step s l ≡ Ok t → read_each step
 unfolding read_each
 one_read s t l e = rw e refl
 
-more_read : (s t : Sofar) (l : Numbered) (ls : List Numbered) (r : Result Sofar TextFault) → step s l ≡ Ok t → read_each step t ls ≡ r → read_each step s (l ∷ ls) ≡ r
+pub more_read : (s t : Sofar) (l : Numbered) (ls : List Numbered) (r : Result Sofar TextFault) → step s l ≡ Ok t → read_each step t ls ≡ r → read_each step s (l ∷ ls) ≡ r
 unfolding read_each
 more_read s t l ls r e h = rw e h
 
-first_read : (s r : Sofar) (l : Numbered) (ls : List Numbered) → read_each step s (l ∷ ls) ≡ Ok r → (t : Sofar) × (step s l ≡ Ok t) × (read_each step t ls ≡ Ok r)
+pub first_read : (s r : Sofar) (l : Numbered) (ls : List Numbered) → read_each step s (l ∷ ls) ≡ Ok r → (t : Sofar) × (step s l ≡ Ok t) × (read_each step t ls ≡ Ok r)
 unfolding read_each
 first_read s r l ls e = bind_ok (step s l) (λ (t : Sofar). read_each step t ls) r e
 

@@ -1,3 +1,4 @@
 pub mod NameLines
 pub mod Reading
 pub mod MachineText
+pub mod Description

@@ -3,11 +3,17 @@
 //! lines before it, and the text are proved equal to definitions on lists.
 #![tactic(auto)]
 
+mod laws;
 mod line;
 mod names;
 mod print;
 mod read;
 mod sofar;
+#[cfg(test)]
+mod tests;
+mod tiny;
 
+pub use laws::{printed_again, what_is_described};
 pub use print::print_machine;
 pub use read::read_machine;
+pub use tiny::TINY;
