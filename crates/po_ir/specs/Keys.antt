@@ -56,20 +56,34 @@ key_text (key.Bin o) = bin_text o
 key_text (key.Un o) = un_text o
 key_text (key.Br r) = rel_text r
 
+abbrev pub bins : List Bin
+bins = bin.Add ∷ bin.Sub ∷ bin.Mul ∷ bin.And ∷ bin.Or ∷ bin.Xor ∷ bin.Shl ∷ bin.Shr ∷ bin.Sar ∷ []
+
 -- the one whose word this is
 unfoldable pub bin_of : List ℕ → Option Bin
-bin_of w = find (λ o. same w (bin_text o)) (bin.Add ∷ bin.Sub ∷ bin.Mul ∷ bin.And ∷ bin.Or ∷ bin.Xor ∷ bin.Shl ∷ bin.Shr ∷ bin.Sar ∷ [])
+bin_of w = find (λ o. same w (bin_text o)) bins
+
+abbrev pub uns : List Un
+uns = un.Neg ∷ un.Not ∷ []
 
 -- the one whose word this is
 unfoldable pub un_of : List ℕ → Option Un
-un_of w = find (λ o. same w (un_text o)) (un.Neg ∷ un.Not ∷ [])
+un_of w = find (λ o. same w (un_text o)) uns
+
+abbrev pub rels : List Rel
+rels = rel.Eq ∷ rel.Ne ∷ rel.Lt ∷ rel.Le ∷ rel.Gt ∷ rel.Ge ∷ rel.Ltu ∷ rel.Geu ∷ []
 
 -- the one whose word this is
 unfoldable pub rel_of : List ℕ → Option Rel
-rel_of w = find (λ o. same w (rel_text o)) (rel.Eq ∷ rel.Ne ∷ rel.Lt ∷ rel.Le ∷ rel.Gt ∷ rel.Ge ∷ rel.Ltu ∷ rel.Geu ∷ [])
+rel_of w = find (λ o. same w (rel_text o)) rels
 
+-- those that are neither an operator nor a branch
+abbrev pub plains : List Key
+plains = key.Con ∷ key.Adl ∷ key.Adg ∷ key.Lod ∷ key.Sto ∷ key.Dup ∷ key.Pop ∷ key.Lab ∷ key.Jmp ∷ key.Arg ∷ key.Call ∷ key.Ret ∷ []
+
+-- the one of them whose word this is
 unfoldable pub plain_of : List ℕ → Option Key
-plain_of w = find (λ k. same w (key_text k)) (key.Con ∷ key.Adl ∷ key.Adg ∷ key.Lod ∷ key.Sto ∷ key.Dup ∷ key.Pop ∷ key.Lab ∷ key.Jmp ∷ key.Arg ∷ key.Call ∷ key.Ret ∷ [])
+plain_of w = find (λ k. same w (key_text k)) plains
 
 -- the first of two that is there
 abbrev pub or_else : {A : Type 0} → Option A → Option A → Option A

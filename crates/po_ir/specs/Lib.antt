@@ -4,3 +4,6 @@ pub mod Lines
 pub mod Faults
 pub mod Reading
 pub mod Units
+pub mod Grammar
+pub mod Printing
+pub mod Laws

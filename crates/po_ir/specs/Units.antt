@@ -1,5 +1,5 @@
 -- The units that the stack language allows.
-use Rattle.std.specs.Prelude.{◌^◌, ◌<◌, ◌≤◌, ◌≡◌, List, [], ◌∷◌, ◌++◌, length, All, IsTrue, None, ⊤}
+use Rattle.std.specs.Prelude.{◌^◌, ◌<◌, ◌≤◌, ◌≡◌, List, [], ◌∷◌, ◌++◌, length, ◌≢◌, All, AllPairs, IsTrue, None, ⊤}
 use Rattle.std.specs.List.{flat_map}
 use Rattle.po_name.specs.Names.{is_name}
 use Rattle.po_lines.specs.NameList.{has}
@@ -42,3 +42,7 @@ pub record IsUnit (u : StackUnit) : Type 0 where
   pub targets : All (λ l. IsTrue (has l (labels_of u.ops))) (flat_map target_in u.ops)
   -- the end isn't reached
   pub ends : IsTrue (ends_well u.ops)
+
+-- no two units have one name
+abbrev pub NamesDiffer : List StackUnit → Type 0
+NamesDiffer us = AllPairs (λ u v. u.name ≢ v.name) us

@@ -4,14 +4,18 @@
 #![tactic(auto)]
 
 mod begun;
+mod laws;
 mod line;
 mod open;
+mod print;
 mod read;
 mod rules;
 mod state;
 mod unit;
 mod words;
 
+pub use laws::{printed_units_are_read, units_are_written};
 pub use po_name::Name;
+pub use print::print_unit;
 pub use read::read_units;
 pub use unit::{Op, Unit};

@@ -1,13 +1,15 @@
 //! The units of a text: one line behind the other, and what was read so far as a value.
 
-ghost use Rattle.std.specs.Prelude.{◌≡◌, ◌≤◌, ◌+◌, ◌<◌, ◌^◌, ◌++◌, ◌∷◌, [], map, length, IfOk};
+ghost use Rattle.std.specs.Prelude.{◌≡◌, ◌≤◌, ◌+◌, ◌<◌, ◌^◌, ◌++◌, ◌∷◌, [], map, length, All, IfOk};
 ghost use Rattle.std.specs.Option.{option_map};
 ghost use Rattle.po_lines.specs.Faults.{Gets};
-ghost use Rattle.po_lines.specs.Lines.{line_of};
+ghost use Rattle.po_lines.specs.Lines.{line_of, lines_behind};
 ghost use Rattle.po_lines.specs.Reading.{read_each};
 ghost use Rattle.po_lines.specs.Words.{seen};
+ghost use Rattle.po_ir.specs.Grammar.{IsUnits};
 ghost use Rattle.po_ir.specs.Reading as reading;
 ghost use Rattle.po_ir.specs.Reading.{IsState, state_shown};
+ghost use Rattle.po_ir.specs.Units.{IsUnit, NamesDiffer};
 
 use crate::begun::Begun;
 use crate::line::second_column;
@@ -225,10 +227,9 @@ fn read_lines(alloc: Global, lines: &mut Lines) -> Result<State, TextRefusal>
     Ok(state)
 }
 
-/// The units of a text from a place on, up to its end, or the first fault there (docs/STACK.md). The time is linear in
-/// what is read.
+/// The units of a text from a place on, or the first fault there.
 #[tactic(auto, unfolding(crate::specs::Reading::units_in, crate::specs::Reading::finish))]
-pub fn read_units(alloc: Global, text: &[u8], at: Spot) -> Result<Items<Unit>, TextRefusal>
+fn units_of(alloc: Global, text: &[u8], at: Spot) -> Result<Items<Unit>, TextRefusal>
     requires within { at.offset ≤ length text.now }
     requires counted { at.line + length text.now < 2 ^ 32 }
     ensures { Gets (λ us. us) result (reading.units_behind at text.now) }
@@ -242,4 +243,18 @@ pub fn read_units(alloc: Global, text: &[u8], at: Spot) -> Result<Items<Unit>, T
         None => Ok(state.units),
         Some(_) => Err(ended_early(&lines)),
     }
+}
+
+/// The units of a text from a place on, up to its end, or the first fault there (docs/STACK.md). `at` is where a line
+/// begins, or the text's end. What is read is allowed by the language. The time is linear in what is read.
+pub fn read_units(alloc: Global, text: &[u8], at: Spot) -> Result<Items<Unit>, TextRefusal>
+    requires within { at.offset ≤ length text.now }
+    requires counted { at.line + length text.now < 2 ^ 32 }
+    ensures gets { Gets (λ us. us) result (reading.units_behind at text.now) }
+    ensures allowed { IfOk result (λ us. All IsUnit us) }
+    ensures differ { IfOk result (λ us. NamesDiffer us) }
+    ensures few { IfOk result (λ us. length us ≤ 65536) }
+    ensures written { IfOk result (IsUnits (lines_behind at text.now)) }
+{
+    units_of(alloc, text, at)
 }

@@ -1,6 +1,6 @@
-use Rattle.std.proofs.Common.{◌≡◌, ℕ, List, [], ◌∷◌, ◌++◌, refl, ap, ◌∙◌, map, true, false, Bool, Vec, Global}
+use Rattle.std.proofs.Common.{◌≡◌, ℕ, ◌+◌, Option, List, [], ◌∷◌, ◌++◌, refl, ap, ◌∙◌, map, suc, length, true, false, Bool, Vec, Global}
 use Rattle.std.specs.Prelude.{cond, not, ◌||◌, nat_eq}
-use Rattle.std.specs.List.{list_any}
+use Rattle.std.specs.List.{list_any, position, position_or_len}
 use Rattle.std.specs.Cmp.Lexicographic.{pointwise}
 use Rattle.indexmap.specs.IndexSet.{insert_key}
 use Rattle.po_lines.specs.NameList.{has}
@@ -33,3 +33,19 @@ added_is keys k name names added e f h = rw (← e, ← f) (h ∙ ap not (any_ma
 pub put_is : (keys new_keys : List (Vec ℕ Global)) (k : Vec ℕ Global) (name : List ℕ) (names : List (List ℕ)) → k.items ≡ name → names_of keys ≡ names
     → new_keys ≡ insert_key (λ x y. pointwise nat_eq x.items y.items) keys k → names_of new_keys ≡ cond (has name names) names (names ++ name ∷ [])
 put_is keys new_keys k name names e f h = rw (← e, ← f, h) (put_map keys k)
+
+place_or_len_map : {A B : Type 0} (p : B → Bool) (f : A → B) (xs : List A) → position_or_len (λ x. p (f x)) xs ≡ position_or_len p (map f xs)
+place_or_len_map p f [] = refl
+place_or_len_map p f (x ∷ xs) = ap (λ (n : ℕ). cond (not (p (f x))) (1 + n) 0) (place_or_len_map p f xs)
+
+pub length_map : {A B : Type 0} (f : A → B) (xs : List A) → length (map f xs) ≡ length xs
+length_map f [] = refl
+length_map f (x ∷ xs) = ap suc (length_map f xs)
+
+-- the place of a name
+pub place_map : {A B : Type 0} (p : B → Bool) (f : A → B) (xs : List A) → position (λ x. p (f x)) xs ≡ position p (map f xs)
+place_map p f xs = rw (length_map f xs, place_or_len_map p f xs) refl
+
+pub place_is : (keys : List (Vec ℕ Global)) (name : List ℕ) (names : List (List ℕ)) (r : Option ℕ) → names_of keys ≡ names
+    → r ≡ position (λ v. pointwise nat_eq name v.items) keys → r ≡ position (pointwise nat_eq name) names
+place_is keys name names r e h = rw (← e) (h ∙ place_map (pointwise nat_eq name) (λ (v : Vec ℕ Global). v.items) keys)

@@ -20,7 +20,8 @@ impl Model for Names {
 }
 
 impl Names {
-    ghost use Rattle.std.specs.Prelude.{◌≡◌, ◌++◌, ◌∷◌, [], not, IfOk, OnOk, if◌then◌else◌};
+    ghost use Rattle.std.specs.Prelude.{◌≡◌, ◌++◌, ◌∷◌, [], length, not, nat_eq, position, IfOk, OnOk, if◌then◌else◌};
+    ghost use Rattle.std.specs.Cmp.Lexicographic.{pointwise};
     ghost use Rattle.po_lines.specs.NameList.{has};
 
     pub fn new(alloc: Global) -> Names
@@ -37,6 +38,22 @@ impl Names {
         ensures { result ≡ has name.now self.now }
     {
         self.set.contains(name)
+    }
+
+    /// Where the name stands; None exactly where it isn't there.
+    #[tactic(auto, using(crate::proofs::NameSet::place_is))]
+    pub fn place(&self, name: &[u8]) -> Option<usize>
+        ensures { result ≡ position (pointwise nat_eq name.now) self.now }
+    {
+        self.set.get_index_of(name)
+    }
+
+    /// How many there are.
+    #[tactic(auto, using(crate::proofs::NameSet::length_map))]
+    pub fn len(&self) -> usize
+        ensures { result ≡ length self.now }
+    {
+        self.set.len()
     }
 
     /// Adds a name, if it isn't there.

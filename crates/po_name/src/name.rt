@@ -41,6 +41,14 @@ impl Name {
         }
     }
 
+    /// The same name once more.
+    pub fn copy(&self, alloc: Global) -> Result<Name, OutOfMemory>
+        ensures { IfOk result (λ name. name ≡ self.now) }
+    {
+        let bytes = Items::from_slice(alloc, self.bytes.as_slice())?;
+        Ok(Name { bytes })
+    }
+
     /// Its bytes.
     pub fn bytes(&self) -> &[u8]
         ensures { result.now ≡ self.now }

@@ -1,0 +1,4 @@
+pub mod Reads
+pub mod Spans
+pub mod Places
+pub mod Refusals

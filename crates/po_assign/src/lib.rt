@@ -1,0 +1,15 @@
+//! The machine register of each virtual register of a unit's code (docs/LANGUAGE.md, "Placement").
+//!
+//! `reads` finds the last read of each register, `spans` the interval of each in order, and `place` gives each interval the lowest free
+//! machine register, or finds the first crowded point. Instruction p of the code reads at the point 2 * p and writes at the point
+//! 2 * p + 1. Each of the three goes once over the code or over the intervals. `unit` does them one after another.
+#![tactic(auto)]
+
+mod answer;
+mod place;
+mod reads;
+mod spans;
+mod unit;
+
+pub use answer::{AssignRefusal, Placed};
+pub use unit::{assign, never_shared};

@@ -1,0 +1,35 @@
+-- The texts of operands, by the ten operands that a recogniser answers.
+use Rattle.std.specs.Prelude.{ℕ, List, [], ◌∷◌, Option, Some, None, slice_get, unwrap_or}
+use Rattle.std.specs.Fmt.{signed_decimal}
+use Rattle.std.specs.List.{flat_map}
+use Rattle.po_word.specs.Words.{signed}
+use Rattle.po_model.specs.declared.machine.Machine.{Machine}
+use Rattle.po_model.specs.declared.machine.Piece.{Piece}
+use Rattle.po_model.specs.declared.machine.Piece.TheVariants as piece
+use Rattle.po_model.specs.UnitCodes.{PlainUnit}
+use Rattle.po_model.specs.Assembly.{name_at, label_text, register_text}
+use Rattle.po_recog.specs.declared.answer.Operand.{Operand}
+use Rattle.po_recog.specs.declared.answer.Operand.TheVariants.{Reg, Num, Label, Sym}
+
+-- the operand of a digit, among the ten
+abbrev pub slot_at : List (Option Operand) → ℕ → Option Operand
+slot_at slots k = unwrap_or (slice_get slots k) None
+
+module _ (m : Machine) (at : ℕ → ℕ) (u : PlainUnit) where
+  abbrev pub operand_text : Option Operand → List ℕ
+  operand_text None = []
+  operand_text (Some (Reg r)) = register_text m at r
+  operand_text (Some (Num c)) = signed_decimal (signed c)
+  operand_text (Some (Label l)) = label_text u l
+  operand_text (Some (Sym s)) = name_at u.syms s.0
+
+  abbrev pub piece_text : List (Option Operand) → Piece → List ℕ
+  piece_text slots (piece.Byte b) = b ∷ []
+  piece_text slots (piece.Reg k) = operand_text (slot_at slots k)
+  piece_text slots (piece.Num k) = operand_text (slot_at slots k)
+  piece_text slots (piece.Label k) = operand_text (slot_at slots k)
+  piece_text slots (piece.Sym k) = operand_text (slot_at slots k)
+
+  -- a template with these operands
+  abbrev pub filled : List (Option Operand) → List Piece → List ℕ
+  filled slots ps = flat_map (piece_text slots) ps

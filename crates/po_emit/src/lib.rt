@@ -1,0 +1,12 @@
+//! The assembly of a placed unit (docs/DESCRIPTION.md, "Templates").
+//!
+//! `names` has the names of registers, labels and symbols, `fill` the templates, `lines` the lines of instructions and blocks, and
+//! `unit` the whole unit. Everything is written at the end of one buffer, each byte once.
+#![tactic(auto)]
+
+mod fill;
+mod lines;
+mod names;
+mod unit;
+
+pub use unit::emit;

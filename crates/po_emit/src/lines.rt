@@ -1,0 +1,87 @@
+//! The lines of instructions and of blocks.
+ghost use Rattle.std.specs.Prelude.{◌≡◌, ◌++◌, ◌<◌, ◌^◌, ℕ, Bool, OnOk, length, map};
+ghost use Rattle.po_term.specs.Moves.{moves_of, instrs_of};
+ghost use Rattle.po_model.specs.declared.var.Var.TheVariants.{Cc};
+ghost use Rattle.po_model.specs.Blocks.{block_of};
+ghost use Rattle.po_model.specs.Fit.{fit};
+ghost use Rattle.po_model.specs.LiveSets.{holds_at};
+ghost use Rattle.po_model.specs.UnitCodes.{unit_of};
+ghost use Rattle.po_model.specs.Assembly.{label_line, line_of, lines_from};
+ghost use Rattle.po_emit.specs.Regs.{machine_at};
+
+use crate::fill::push_filled;
+use crate::names::{MachineRegs, push_label};
+use po_model::{Block, Live, Machine, UnitCode};
+use po_recog::recognise;
+use po_term::{Instr, Label, Transfer};
+use po_word::OutOfMemory;
+use std::alloc::Global;
+
+/// Writes the line of a block, where it has a label.
+pub fn push_label_line(
+    u: &UnitCode,
+    label: Option<Label>,
+    out: &mut Vec<u8>,
+) -> Result<(), OutOfMemory>
+    ensures { OnOk result (out.new.items ≡ out.old.items ++ label_line (unit_of u.now) label) }
+{
+    if let Some(label) = label {
+        push_label(u, label, out)?;
+        out.extend_from_slice(b":\n")?;
+    }
+    Ok(())
+}
+
+/// Writes the line of an instruction: two spaces, the filled template of the entry that it fits, and a line feed. Nothing where no
+/// entry fits it.
+fn push_line(
+    alloc: Global,
+    m: &Machine,
+    regs: &MachineRegs,
+    u: &UnitCode,
+    xs: &[Transfer],
+    cc_live: bool,
+    out: &mut Vec<u8>,
+) -> Result<(), OutOfMemory>
+    requires { length m.now.entries < 2 ^ 32 }
+    ensures { OnOk result (out.new.items ≡ out.old.items ++ line_of m.now (machine_at regs.now) (unit_of u.now) (fit m.now cc_live (moves_of xs.now))) }
+{
+    if let Some(found) = recognise(alloc, m, xs, cc_live)? {
+        out.extend_from_slice(b"  ")?;
+        if let Some(entry) = m.entries.as_slice().get(found.entry as usize) {
+            push_filled(m, regs, u, &found.operands, entry.template.as_slice(), out)?;
+        }
+        out.push(b'\n')?;
+    }
+    Ok(())
+}
+
+/// Whether `cc` is live after the instruction of that number.
+fn cc_live_at(lives: &[Live], i: usize) -> bool
+    ensures { result ≡ holds_at lives.now i Cc }
+{
+    match lives.get(i) {
+        Some(live) => live.cc,
+        None => false,
+    }
+}
+
+/// Writes the lines of a block's instructions, with what is live after each.
+pub fn push_lines(
+    alloc: Global,
+    m: &Machine,
+    regs: &MachineRegs,
+    u: &UnitCode,
+    xs: &[Instr],
+    lives: &[Live],
+    out: &mut Vec<u8>,
+) -> Result<(), OutOfMemory>
+    requires { length m.now.entries < 2 ^ 32 }
+    ensures { (live : ℕ → ℕ → Bool) (b : ℕ) → ((i : ℕ) → live b i ≡ holds_at lives.now i Cc) →
+        OnOk result (out.new.items ≡ out.old.items ++ lines_from m.now (machine_at regs.now) (unit_of u.now) live b 0 (instrs_of xs.now)) }
+{
+    for (i, x) in xs.iter().enumerate() {
+        push_line(alloc, m, regs, u, &x.xs, cc_live_at(lives, i), out)?;
+    }
+    Ok(())
+}

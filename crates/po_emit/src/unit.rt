@@ -1,0 +1,97 @@
+//! The whole unit.
+ghost use Rattle.std.specs.Prelude.{◌≡◌, ◌++◌, ◌<◌, ◌^◌, ℕ, Bool, List, OnOk, OnErr, IfOk, length, map};
+ghost use Rattle.po_model.specs.declared.var.Var.TheVariants.{Cc};
+ghost use Rattle.po_model.specs.Blocks.{code_of, block_of, IsCode};
+ghost use Rattle.po_model.specs.LiveSets.{holds_at, lives_at};
+ghost use Rattle.po_model.specs.UnitCodes.{unit_of};
+ghost use Rattle.po_term.specs.Moves.{instrs_of};
+ghost use Rattle.po_model.specs.Assembly.{label_line, lines_from, blocks_from, IsAssembly};
+ghost use Rattle.po_emit.specs.Regs.{machine_at};
+
+use crate::lines::{push_label_line, push_lines};
+use crate::names::{MachineRegs, machine_regs};
+use po_assign::Placed;
+use po_live::live_after;
+use po_model::{Block, Live, Machine, UnitCode};
+use po_word::OutOfMemory;
+use std::alloc::Global;
+
+/// What is live after each instruction of the block of that number.
+fn lives_at(lives: &[Vec<Live>], b: usize) -> &[Live]
+    ensures { result.now ≡ lives_at lives.now b }
+{
+    match lives.get(b) {
+        Some(after) => after,
+        None => &[],
+    }
+}
+
+/// Writes the lines of a block.
+fn push_block(
+    alloc: Global,
+    m: &Machine,
+    regs: &MachineRegs,
+    u: &UnitCode,
+    block: &Block,
+    lives: &[Live],
+    out: &mut Vec<u8>,
+) -> Result<(), OutOfMemory>
+    requires { length m.now.entries < 2 ^ 32 }
+    ensures { (live : ℕ → ℕ → Bool) (b : ℕ) → ((i : ℕ) → live b i ≡ holds_at lives.now i Cc) →
+        OnOk result (out.new.items ≡ out.old.items ++ label_line (unit_of u.now) block.now.label ++ lines_from m.now (machine_at regs.now) (unit_of u.now) live b 0 (instrs_of block.now.instrs.items)) }
+{
+    push_label_line(u, block.label, out)?;
+    push_lines(alloc, m, regs, u, &block.instrs, lives, out)
+}
+
+/// Writes the lines of all blocks.
+fn push_blocks(
+    alloc: Global,
+    m: &Machine,
+    regs: &MachineRegs,
+    u: &UnitCode,
+    lives: &[Vec<Live>],
+    out: &mut Vec<u8>,
+) -> Result<(), OutOfMemory>
+    requires { length m.now.entries < 2 ^ 32 }
+    ensures { OnOk result (out.new.items ≡ out.old.items ++ blocks_from m.now (machine_at regs.now) (unit_of u.now) (λ b i. holds_at (lives_at lives.now b) i Cc) 0 (code_of u.now.code)) }
+{
+    for (b, block) in u.code.blocks.iter().enumerate() {
+        push_block(alloc, m, regs, u, block, lives_at(lives, b), out)?;
+    }
+    Ok(())
+}
+
+/// The assembly of a unit.
+fn text_of(alloc: Global, m: &Machine, p: &Placed) -> Result<Vec<u8>, OutOfMemory>
+    requires code { IsCode (code_of p.now.unit.code) }
+    requires entries { length m.now.entries < 2 ^ 32 }
+    ensures { IfOk result (λ text. IsAssembly m.now p.now.regs.items (unit_of p.now.unit) text.items) }
+{
+    let regs = machine_regs(alloc, &p.regs)?;
+    let lives = live_after(alloc, &p.unit.code)?;
+    let mut out = Vec::new(alloc);
+    out.extend_from_slice(p.unit.name.bytes())?;
+    out.extend_from_slice(b":\n")?;
+    push_blocks(alloc, m, &regs, &p.unit, &lives.after, &mut out)?;
+    Ok(out)
+}
+
+/// Writes the assembly of a unit at the end of `out`: the line `NAME:`, for each block the line `NAME.LABEL:` where it has a label, and
+/// for each instruction the filled template of the first entry that it fits before placement. After `OutOfMemory` `out` is as before
+/// (docs/DESCRIPTION.md, "Templates").
+pub fn emit(
+    alloc: Global,
+    m: &Machine,
+    p: &Placed,
+    out: &mut Vec<u8>,
+) -> Result<(), OutOfMemory>
+    requires code { IsCode (code_of p.now.unit.code) }
+    requires entries { length m.now.entries < 2 ^ 32 }
+    ensures ok { OnOk result ((text : List ℕ) × IsAssembly m.now p.now.regs.items (unit_of p.now.unit) text × (out.new.items ≡ out.old.items ++ text)) }
+    ensures err { OnErr result (out.new.items ≡ out.old.items) }
+{
+    let text = text_of(alloc, m, p)?;
+    out.extend_from_slice(&text)?;
+    Ok(())
+}

@@ -1,0 +1,6 @@
+pub mod EntryText
+pub mod Words
+pub mod Transfers
+pub mod ListRules
+pub mod Template
+pub mod Reading

@@ -1,0 +1,17 @@
+//! The naive code of a unit, and whether a machine has an instruction for each one of a code (docs/LANGUAGE.md, "Naive code").
+//!
+//! `names` numbers labels and symbols; `state` has what stands between two operations, and `blocks` cuts the code into blocks;
+//! `step` says what each operation does; `unit` goes through a unit; `fitting` asks for the entry of each instruction.
+#![tactic(auto)]
+
+mod blocks;
+mod fitting;
+mod names;
+mod refusal;
+mod state;
+mod step;
+mod unit;
+
+pub use fitting::check;
+pub use refusal::CheckRefusal;
+pub use unit::expand;

@@ -1,0 +1,3 @@
+pub mod NameLines
+pub mod Reading
+pub mod MachineText

@@ -1,0 +1,2 @@
+pub mod InnermostFirst
+pub mod Steps

@@ -1,0 +1,5 @@
+pub mod Rests
+pub mod Seen
+pub mod Parts
+pub mod Terms
+pub mod Readings
