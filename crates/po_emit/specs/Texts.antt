@@ -1,9 +1,10 @@
 -- The texts of operands, by the ten operands that a recogniser answers.
-use Rattle.std.specs.Prelude.{ℕ, List, [], ◌∷◌, Option, Some, None, slice_get, unwrap_or}
+use Rattle.std.specs.Prelude.{ℕ, List, [], ◌∷◌, Option, Some, None, ◌++◌, codes, slice_get, unwrap_or}
 use Rattle.std.specs.Fmt.{signed_decimal}
 use Rattle.std.specs.List.{flat_map}
 use Rattle.po_word.specs.Words.{signed}
 use Rattle.po_model.specs.declared.machine.Machine.{Machine}
+use Rattle.po_model.specs.declared.machine.Entry.{Entry}
 use Rattle.po_model.specs.declared.machine.Piece.{Piece}
 use Rattle.po_model.specs.declared.machine.Piece.TheVariants as piece
 use Rattle.po_model.specs.UnitCodes.{PlainUnit}
@@ -33,3 +34,12 @@ module _ (m : Machine) (at : ℕ → ℕ) (u : PlainUnit) where
   -- a template with these operands
   abbrev pub filled : List (Option Operand) → List Piece → List ℕ
   filled slots ps = flat_map (piece_text slots) ps
+
+  -- with the template of an entry that may be there
+  abbrev pub filled_from : List (Option Operand) → Option Entry → List ℕ
+  filled_from slots None = []
+  filled_from slots (Some e) = filled slots e.template
+
+  -- the line of an instruction that fits the entry of this number, with these operands
+  abbrev pub line_with : ℕ × List (Option Operand) → List ℕ
+  line_with found = codes "  " ++ filled_from found.1 (slice_get m.entries found.0) ++ codes "\n"

@@ -1,18 +1,19 @@
 //! The lines of instructions and of blocks.
-ghost use Rattle.std.specs.Prelude.{◌≡◌, ◌++◌, ◌<◌, ◌^◌, ℕ, Bool, OnOk, length, map};
+ghost use Rattle.std.specs.Prelude.{◌≡◌, ◌++◌, ◌<◌, ◌^◌, ℕ, Bool, OnOk, length, slice_get};
 ghost use Rattle.po_term.specs.Moves.{moves_of, instrs_of};
 ghost use Rattle.po_model.specs.declared.var.Var.TheVariants.{Cc};
-ghost use Rattle.po_model.specs.Blocks.{block_of};
 ghost use Rattle.po_model.specs.Fit.{fit};
 ghost use Rattle.po_model.specs.LiveSets.{holds_at};
 ghost use Rattle.po_model.specs.UnitCodes.{unit_of};
 ghost use Rattle.po_model.specs.Assembly.{label_line, line_of, lines_from};
+ghost use Rattle.po_recog.specs.Operands.{fit_of};
 ghost use Rattle.po_emit.specs.Regs.{machine_at};
+ghost use Rattle.po_emit.specs.Texts.{filled_from, line_with};
 
 use crate::fill::push_filled;
 use crate::names::{MachineRegs, push_label};
 use po_model::{Block, Live, Machine, UnitCode};
-use po_recog::recognise;
+use po_recog::{Fit, recognise};
 use po_term::{Instr, Label, Transfer};
 use po_word::OutOfMemory;
 use std::alloc::Global;
@@ -32,8 +33,39 @@ pub fn push_label_line(
     Ok(())
 }
 
-/// Writes the line of an instruction: two spaces, the filled template of the entry that it fits, and a line feed. Nothing where no
-/// entry fits it.
+/// Writes the template of the entry of that number with its operands filled in. Nothing where there is none of that number.
+fn push_entry(
+    m: &Machine,
+    regs: &MachineRegs,
+    u: &UnitCode,
+    found: &Fit,
+    out: &mut Vec<u8>,
+) -> Result<(), OutOfMemory>
+    ensures { OnOk result (out.new.items ≡ out.old.items ++ filled_from m.now (machine_at regs.now) (unit_of u.now) found.now.operands.items (slice_get m.now.entries found.now.entry)) }
+{
+    match m.entries.as_slice().get(found.entry as usize) {
+        Some(entry) => push_filled(m, regs, u, &found.operands, entry.template.as_slice(), out),
+        None => Ok(()),
+    }
+}
+
+/// Writes the line of an instruction that fits an entry: two spaces, the filled template and a line feed.
+fn push_found(
+    m: &Machine,
+    regs: &MachineRegs,
+    u: &UnitCode,
+    found: &Fit,
+    out: &mut Vec<u8>,
+) -> Result<(), OutOfMemory>
+    ensures { OnOk result (out.new.items ≡ out.old.items ++ line_with m.now (machine_at regs.now) (unit_of u.now) (fit_of found.now)) }
+{
+    out.extend_from_slice(b"  ")?;
+    push_entry(m, regs, u, found, out)?;
+    out.extend_from_slice(b"\n")?;
+    Ok(())
+}
+
+/// Writes the line of an instruction. Nothing where no entry fits it.
 fn push_line(
     alloc: Global,
     m: &Machine,
@@ -46,14 +78,10 @@ fn push_line(
     requires { length m.now.entries < 2 ^ 32 }
     ensures { OnOk result (out.new.items ≡ out.old.items ++ line_of m.now (machine_at regs.now) (unit_of u.now) (fit m.now cc_live (moves_of xs.now))) }
 {
-    if let Some(found) = recognise(alloc, m, xs, cc_live)? {
-        out.extend_from_slice(b"  ")?;
-        if let Some(entry) = m.entries.as_slice().get(found.entry as usize) {
-            push_filled(m, regs, u, &found.operands, entry.template.as_slice(), out)?;
-        }
-        out.push(b'\n')?;
+    match recognise(alloc, m, xs, cc_live)? {
+        Some(found) => push_found(m, regs, u, &found, out),
+        None => Ok(()),
     }
-    Ok(())
 }
 
 /// Whether `cc` is live after the instruction of that number.

@@ -3,3 +3,8 @@ pub mod Steps
 pub mod Loop
 pub mod Units
 pub mod Recognised
+pub mod Cutting
+pub mod Places
+pub mod Sound
+pub mod Pieces
+pub mod Codes

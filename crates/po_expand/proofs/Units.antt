@@ -24,6 +24,9 @@ split_and : (a b : Bool) → a && b ≡ false → a ≡ true → b ≡ false
 split_and true b e f = e
 split_and false b e f = absurd (grind arith)
 
+same_depth : (a b : ℕ) → a ≤ b → b ≤ a → b ≡ a
+same_depth a b h k = omega (arith, h, k)
+
 allowed : (before : List Op) (o : Op) → decided before o 1 ≡ None → (pops o ≤ depth_of before) × (is_boundary o ≡ true → depth_of before ≡ pops o)
 allowed before o e =
     let labels = no_fault _ _ _ e in
@@ -31,7 +34,7 @@ allowed before o e =
     let many = no_fault _ _ _ values.1 in
     let boundary = no_fault _ _ _ many.1 in
     let enough : pops o ≤ depth_of before = ltb-false (depth_of before) (pops o) values.0 in
-    (enough, λ b. let only : depth_of before ≤ pops o = ltb-false (pops o) (depth_of before) (split_and (is_boundary o) (nat_lt (pops o) (depth_of before)) boundary.0 b) in omega (arith, enough, only))
+    (enough, λ b. same_depth (pops o) (depth_of before) enough (ltb-false (pops o) (depth_of before) (split_and (is_boundary o) (nat_lt (pops o) (depth_of before)) boundary.0 b)))
 
 follow_fits : (before os : List Op) → Follow before os → Fits (depth_of before) os
 follow_fits before [] f = tt

@@ -4,7 +4,7 @@ ghost use Rattle.std.specs.Prelude.{◌≡◌, ◌≤◌, map, length, IfOk};
 ghost use Rattle.po_ir.specs.Units.{IsUnit};
 ghost use Rattle.po_model.specs.Blocks.{block_of};
 ghost use Rattle.po_model.specs.Naive.{blocks_in, naive};
-ghost use Rattle.po_model.specs.UnitCodes.{unit_of};
+ghost use Rattle.po_model.specs.UnitCodes.{unit_of, IsUnitCode};
 ghost use Rattle.po_expand.specs.Fits.{Fits};
 ghost use Rattle.po_expand.specs.Steps.{between, nothing_yet};
 
@@ -48,10 +48,11 @@ fn blocks(
 }
 
 /// The naive code of a unit (docs/LANGUAGE.md, "Naive code"), or want of memory. The time is linear in the unit.
-#[tactic(auto, using(crate::proofs::Units::unit_fits))]
+#[tactic(auto, using(crate::proofs::Codes::unit_code))]
 pub fn expand(alloc: Global, u: &Unit) -> Result<UnitCode, OutOfMemory>
     requires { IsUnit u.now }
-    ensures { IfOk result (λ c. unit_of c ≡ naive u.now) }
+    ensures naive { IfOk result (λ c. unit_of c ≡ naive u.now) }
+    ensures formed { IfOk result (λ c. IsUnitCode (unit_of c)) }
 {
     let ops = u.ops.as_slice();
     let labels = labels(alloc, ops)?;

@@ -174,7 +174,7 @@ call_found (w ∷ v ∷ ws) end o e =
     let f = name_found w b.0 b.1 in
     let s = small_number_found 4 c.0 v c.1 in
     subst (λ (q : Op). Found key.Call (w ∷ v ∷ ws) q) (ok_is t.2)
-        (refl, (v.bytes, subst (λ (m : List ℕ). is_name m ≡ true) f.1 f.0, s.0, s.1, ap (λ (m : List ℕ). m ∷ v.bytes ∷ map bytes_of ws) f.1 ∙ ap (λ (r : List (List ℕ)). b.0 ∷ v.bytes ∷ r) (no_more_found ws t.0 t.1)))
+    (refl, (v.bytes, subst (λ (m : List ℕ). is_name m ≡ true) f.1 f.0, s.0, s.1, ap (λ (m : List ℕ). m ∷ v.bytes ∷ map bytes_of ws) f.1 ∙ ap (λ (r : List (List ℕ)). b.0 ∷ v.bytes ∷ r) (no_more_found ws t.0 t.1)))
 
 -- what is read as an operation has its form
 pub op_found : (k : Key) (ws : List Placed) (end : ℕ) (o : Op) → op_in k ws end ≡ Ok o → Found k ws o

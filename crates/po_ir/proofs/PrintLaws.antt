@@ -237,9 +237,10 @@ op_lines [] h = (first_line (codes "end") (record { some = omega arith; graphic 
 op_lines (o ∷ os) h = (op_line o h.0, op_lines os h.1)
 
 unit_lines : (u : StackUnit) → IsUnit u → AllByRecursion IsLine (unit_words u)
-unit_lines u h =
-    (second_line (codes "unit") u.name (record { some = omega arith; graphic = refl }) (omega arith) refl (name_printed u.name h.name) (name_few u.name h.name),
-     op_lines u.ops (recursion_from_All IsOp u.ops h.each))
+unit_lines u h = (
+  second_line (codes "unit") u.name (record { some = omega arith; graphic = refl }) (omega arith) refl (name_printed u.name h.name) (name_few u.name h.name),
+  op_lines u.ops (recursion_from_All IsOp u.ops h.each),
+)
 
 -- the bytes of a line
 line_low : (ws : List (List ℕ)) → AllByRecursion IsPrinted ws → list_all (nat_le 32) (join_with_byte 32 ws) ≡ true
@@ -265,7 +266,7 @@ record Some_part (parts : List (List ℕ)) : Type 0 where
 cut_line : (ws : List (List ℕ)) (rest : List ℕ) → IsLine ws → slice_split is_feed (line_text ws ++ rest) ≡ join_with_byte 32 ws ∷ slice_split is_feed rest
 cut_line ws rest h =
     rw (append_assoc (join_with_byte 32 ws) (10 ∷ []) rest)
-        (slice_split_at is_feed (join_with_byte 32 ws) 10 rest (All-from_recursion _ (join_with_byte 32 ws) (each_byte (nat_le 32) (λ b. is_feed b ≡ false) not_feed (join_with_byte 32 ws) (line_low ws h.words))) refl)
+    (slice_split_at is_feed (join_with_byte 32 ws) 10 rest (All-from_recursion _ (join_with_byte 32 ws) (each_byte (nat_le 32) (λ b. is_feed b ≡ false) not_feed (join_with_byte 32 ws) (line_low ws h.words))) refl)
 
 some_part : (ws : List (List (List ℕ))) → AllByRecursion IsLine ws → Some_part (slice_split is_feed (flat_map line_text ws))
 some_part [] h = record { first = []; more = []; is = refl }
@@ -282,7 +283,7 @@ unfolding lines_from
 next_line n o w ws h hs =
     ap (lines_at n o) (cut_line w (flat_map line_text ws) h)
     ∙ two_parts n o (join_with_byte 32 w) (slice_split is_feed (flat_map line_text ws)) (some_part ws hs)
-        (no_return (join_with_byte 32 w) (All-from_recursion _ (join_with_byte 32 w) (each_byte (nat_le 32) (λ b. (b == 13) ≡ false) not_return (join_with_byte 32 w) (line_low w h.words))))
+    (no_return (join_with_byte 32 w) (All-from_recursion _ (join_with_byte 32 w) (each_byte (nat_le 32) (λ b. (b == 13) ≡ false) not_return (join_with_byte 32 w) (line_low w h.words))))
 
 no_line : (n o : ℕ) → lines_from n o [] ≡ []
 unfolding lines_from
@@ -304,7 +305,7 @@ lines_say [] n o h = rw (no_line n o) (record { said_is = refl; short = All-nil 
 lines_say (w ∷ ws) n o h =
     let g = h.0 in
     subst (λ (ls : List Numbered). Says ls (w ∷ ws)) (sym (next_line n o w ws g h.1))
-        (says_more _ w _ ws (words_again w (solid_words w g.words)) g.speaks g.short (lines_say ws (n + 1) (o + length (join_with_byte 32 w) + 1) h.1))
+    (says_more _ w _ ws (words_again w (solid_words w g.words)) g.speaks g.short (lines_say ws (n + 1) (o + length (join_with_byte 32 w) + 1) h.1))
 
 op_forms : (os : List Op) → AllByRecursion IsOp os → AllZip IsOpLine (map op_words os) os
 op_forms [] h = tt

@@ -14,6 +14,6 @@ pub parts_printed : (name : List ℕ) (os : List Op) (a b c d e : List ℕ) → 
     → e ≡ unit_text (record { name = name; ops = os })
 parts_printed name os a b c d e first second third fourth fifth =
     let whole : ((([] ++ codes "unit " ++ name) ++ codes "\n") ++ flat_map (λ o. line_text (op_words o)) os) ++ codes "end\n" ≡ unit_text (record { name = name; ops = os }) =
-      append_assoc ((codes "unit " ++ name) ++ codes "\n") (flat_map (λ o. line_text (op_words o)) os) (codes "end\n")
-      ∙ ap (λ (r : List ℕ). ((codes "unit " ++ name) ++ codes "\n") ++ r) (sym (lines_end os)) in
+    append_assoc ((codes "unit " ++ name) ++ codes "\n") (flat_map (λ o. line_text (op_words o)) os) (codes "end\n")
+    ∙ ap (λ (r : List ℕ). ((codes "unit " ++ name) ++ codes "\n") ++ r) (sym (lines_end os)) in
     fifth ∙ ap (λ (x : List ℕ). x ++ codes "end\n") (fourth ∙ ap (λ (x : List ℕ). x ++ flat_map (λ o. line_text (op_words o)) os) (third ∙ ap (λ (x : List ℕ). x ++ codes "\n") (second ∙ ap (λ (x : List ℕ). x ++ codes "unit " ++ name) first))) ∙ whole

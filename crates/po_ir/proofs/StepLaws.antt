@@ -133,7 +133,7 @@ key_turn line us u None w ws end t e h = absurd (not_ok h)
 key_turn line us u (Some k) w ws end t e h =
     let b = bind_ok (at_line line (op_line line u k ws end)) (λ v. Ok (record { units = us; inside = Some v })) t h in
     subst (λ (x : Sofar). Turn line (w.bytes ∷ map word_bytes ws) (record { units = us; inside = Some u }) x) (ok_is b.2)
-        (op_turn line us u k w.bytes ws end b.0 (key_is w.bytes k e) (at_line_ok line (op_line line u k ws end) b.0 b.1))
+    (op_turn line us u k w.bytes ws end b.0 (key_is w.bytes k e) (at_line_ok line (op_line line u k ws end) b.0 b.1))
 
 inside_turn : (line : ℕ) (us : List StackUnit) (u : Open) (w : Placed) (ws : List Placed) (end : ℕ) (t : Sofar) → inside_line line us u w ws end ≡ Ok t
     → Turn line (w.bytes ∷ map word_bytes ws) (record { units = us; inside = Some u }) t

@@ -63,18 +63,28 @@ record Reads (i : Option Open) (ls : List Numbered) (us : List StackUnit) (t : S
 with_op_line : (l : Numbered) (ls : List Numbered) (name : List ℕ) (os : List Op) (js ks : List Jump) (o : Op) (vs : List StackUnit) → IsOpLine (texts_of l) o
     → Coming (Some (record { name = name; ops = os ++ o ∷ []; jumps = ks })) (said ls) vs → Coming (Some (record { name = name; ops = os; jumps = js })) (said (l ∷ ls)) vs
 with_op_line l ls name os js ks o [] form h = h
-with_op_line l ls name os js ks o (v ∷ vs) form (body, rest, ps, e, zip, is, more) =
-    (texts_of l ∷ body, rest, o ∷ ps, said_more l ls (op_speaks o (texts_of l) form) ∙ ap (λ (x : List (List (List ℕ))). texts_of l ∷ x) e, (form, zip),
-     is ∙ ap (λ (x : List Op). record { name = name; ops = x }) (append_assoc os (o ∷ []) ps), more)
+with_op_line l ls name os js ks o (v ∷ vs) form (body, rest, ps, e, zip, is, more) = (
+  texts_of l ∷ body,
+  rest,
+  o ∷ ps,
+  said_more l ls (op_speaks o (texts_of l) form) ∙ ap (λ (x : List (List (List ℕ))). texts_of l ∷ x) e,
+  (form, zip),
+  is ∙ ap (λ (x : List Op). record { name = name; ops = x }) (append_assoc os (o ∷ []) ps),
+  more,
+)
 
 with_unit_line : (l : Numbered) (ls : List Numbered) (name : List ℕ) (js : List Jump) (vs : List StackUnit) → texts_of l ≡ codes "unit" ∷ name ∷ []
     → Coming (Some (record { name = name; ops = []; jumps = js })) (said ls) vs → AreLinesOf (said (l ∷ ls)) vs
 with_unit_line l ls name js [] text h = absurd h
 with_unit_line l ls name js (v ∷ vs) text (body, rest, ps, e, zip, is, more) =
     let named : v.name ≡ name = ap unit_name is in
-    let ops : v.ops ≡ ps = ap (λ (x : StackUnit). x.ops) is in
-    (body, rest, said_more l ls (unit_speaks name (texts_of l) text) ∙ ap (λ (x : List (List (List ℕ))). texts_of l ∷ x) e ∙ ap (λ (x : List (List ℕ)). x ∷ (body ++ (codes "end" ∷ []) ∷ rest)) (text ∙ ap (λ (x : List ℕ). codes "unit" ∷ x ∷ []) (sym named)),
-     subst (AllZip IsOpLine body) (sym ops) zip, more)
+    let ops : v.ops ≡ ps = ap (λ (x : StackUnit). x.ops) is in (
+      body,
+      rest,
+      said_more l ls (unit_speaks name (texts_of l) text) ∙ ap (λ (x : List (List (List ℕ))). texts_of l ∷ x) e ∙ ap (λ (x : List (List ℕ)). x ∷ (body ++ (codes "end" ∷ []) ∷ rest)) (text ∙ ap (λ (x : List ℕ). codes "unit" ∷ x ∷ []) (sym named)),
+      subst (AllZip IsOpLine body) (sym ops) zip,
+      more,
+    )
 
 with_end_line : (l : Numbered) (ls : List Numbered) (u : Open) (vs : List StackUnit) → texts_of l ≡ codes "end" ∷ []
     → AreLinesOf (said ls) vs → Coming (Some u) (said (l ∷ ls)) (record { name = u.name; ops = u.ops } ∷ vs)
@@ -213,8 +223,8 @@ unit_line_again l ls more short us (v ∷ vs) shorts (body, rest, e, zip, later)
     let behind : said ls ≡ body ++ (codes "end" ∷ []) ∷ rest = cc in
     let unit = middle_unit us v vs good.each in
     read_first (state us None) (open_at us v.name [] []) l ls _
-        (begin_again us v.name l short unit.name (room_before us v vs good.few) (new_name v.name us (others_differ us v vs good.differ)) text)
-        (more us (v ∷ vs) (Some (record { name = v.name; ops = []; jumps = [] })) shorts (body, rest, v.ops, behind, zip, refl, later) good refl)
+    (begin_again us v.name l short unit.name (room_before us v vs good.few) (new_name v.name us (others_differ us v vs good.differ)) text)
+    (more us (v ∷ vs) (Some (record { name = v.name; ops = []; jumps = [] })) shorts (body, rest, v.ops, behind, zip, refl, later) good refl)
 
 -- a line of the unit that has begun
 open_line_again : (l : Numbered) (ls : List Numbered) → ReadsAll ls → IsShort l → (us : List StackUnit) (u : Open) (vs : List StackUnit) → All IsShort ls → Coming (Some u) (texts_of l ∷ said ls) vs → AreAllowed (us ++ vs)
@@ -231,8 +241,8 @@ open_line_again l ls more short us u (v ∷ vs) shorts ([], rest, [], e, zip, is
     let whole : (us ++ done ∷ []) ++ vs ≡ us ++ v ∷ vs = append_assoc us (done ∷ []) vs ∙ ap (λ (x : StackUnit). us ++ x ∷ vs) (sym same) in
     let miss = no_miss (labels_of u.ops) u.jumps (All-same (λ l. IsTrue (has l (labels_of u.ops))) (map label_of u.jumps) (flat_map target_in u.ops) jumps unit.targets) in
     read_first (state us (Some u)) (state (us ++ done ∷ []) None) l ls _
-        (end_again us u l short miss unit.ends text)
-        (more (us ++ done ∷ []) vs None shorts (subst (λ (x : List (List (List ℕ))). AreLinesOf x vs) (sym behind) later) (subst AreAllowed (sym whole) good) tt ∙ ap (λ (x : List StackUnit). Ok (state x None)) whole)
+    (end_again us u l short miss unit.ends text)
+    (more (us ++ done ∷ []) vs None shorts (subst (λ (x : List (List (List ℕ))). AreLinesOf x vs) (sym behind) later) (subst AreAllowed (sym whole) good) tt ∙ ap (λ (x : List StackUnit). Ok (state x None)) whole)
 open_line_again l ls more short us u (v ∷ vs) shorts (w ∷ ws, rest, o ∷ os, e, zip, is, later) good jumps =
     let text : texts_of l ≡ w = cc in
     let behind : said ls ≡ ws ++ (codes "end" ∷ []) ∷ rest = cc in
@@ -240,15 +250,15 @@ open_line_again l ls more short us u (v ∷ vs) shorts (w ∷ ws, rest, o ∷ os
     let free = (follow_rest [] u.ops (o ∷ os) unit.follow).0 in
     let x = op_step_again us u l o short (room_before u.ops o os unit.few) (λ c. any_column u.ops o 1 c free) (subst (λ (t : List (List ℕ)). IsOpLine t o) (sym text) zip.0) in
     read_first (state us (Some u)) (open_at us u.name (u.ops ++ o ∷ []) x.jumps) l ls _ x.read
-        (more us (v ∷ vs) (Some (record { name = u.name; ops = u.ops ++ o ∷ []; jumps = x.jumps })) shorts
-            (ws, rest, os, behind, zip.1, is ∙ ap (λ (y : List Op). record { name = u.name; ops = y }) (sym (append_assoc u.ops (o ∷ []) os)), later) good
-            (x.labels ∙ ap (λ (r : List (List ℕ)). r ++ target_in o) jumps ∙ sym (targets_next u.ops o)))
+    (more us (v ∷ vs) (Some (record { name = u.name; ops = u.ops ++ o ∷ []; jumps = x.jumps })) shorts
+    (ws, rest, os, behind, zip.1, is ∙ ap (λ (y : List Op). record { name = u.name; ops = y }) (sym (append_assoc u.ops (o ∷ []) os)), later) good
+    (x.labels ∙ ap (λ (r : List (List ℕ)). r ++ target_in o) jumps ∙ sym (targets_next u.ops o)))
 
 one_line_again : (l : Numbered) (ls : List Numbered) → ReadsAll ls → (b : Bool) → is_silent (texts_of l) ≡ b → (us vs : List StackUnit) (i : Option Open) → All IsShort (l ∷ ls) → Coming i (said (l ∷ ls)) vs → AreAllowed (us ++ vs) → KeepsJumps i
     → read_each step (state us i) (l ∷ ls) ≡ Ok (state (us ++ vs) None)
 one_line_again l ls more true silent us vs i short h good jumps =
     read_first (state us i) (state us i) l ls _ (silent_again (state us i) l (All-head IsShort l ls short) silent)
-        (more us vs i (All-tail IsShort l ls short) (subst (λ (x : List (List (List ℕ))). Coming i x vs) (said_less l ls silent) h) good jumps)
+    (more us vs i (All-tail IsShort l ls short) (subst (λ (x : List (List (List ℕ))). Coming i x vs) (said_less l ls silent) h) good jumps)
 one_line_again l ls more false speaks us vs None short h good jumps =
     unit_line_again l ls more (All-head IsShort l ls short) us vs (All-tail IsShort l ls short) (subst (λ (x : List (List (List ℕ))). AreLinesOf x vs) (said_more l ls speaks) h) good
 one_line_again l ls more false speaks us vs (Some u) short h good jumps =

@@ -19,3 +19,6 @@ pub use po_name::Name;
 pub use print::print_unit;
 pub use read::read_units;
 pub use unit::{Op, Unit};
+
+#[cfg(test)]
+mod tests;

@@ -1,2 +1,5 @@
 pub mod InnermostFirst
+pub mod LeafFacts
+pub mod Oks
 pub mod Steps
+pub mod TermFacts

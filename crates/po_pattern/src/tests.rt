@@ -124,6 +124,22 @@ fn is_sum_read(read: Result<Parsed<Option<PatTerm>>, LineError>) -> bool {
     }
 }
 
+/// Whether a fixed register was read.
+fn is_fixed(read: Result<Parsed<PatReg>, LineError>) -> bool {
+    match read {
+        Ok(parsed) => matches!(parsed.value, PatReg::Fixed(_)),
+        Err(_) => false,
+    }
+}
+
+/// The digit that was read.
+fn digit(read: Result<Parsed<u8>, LineError>) -> Option<u8> {
+    match read {
+        Ok(parsed) => Some(parsed.value),
+        Err(_) => None,
+    }
+}
+
 #[test]
 fn values(rt: HostRuntime) {
     let sum = term(rt.alloc(), start(b"(%1 + #2[-128,127])"), none_seen());
@@ -134,18 +150,7 @@ fn values(rt: HostRuntime) {
         none_seen(),
     );
     assert!(rt; is_sum_read(place));
-    let set = register(start(b"arg0 := 1"), none_seen());
-    assert!(rt;
-        matches!(
-            set,
-            Ok(Parsed {
-                value: PatReg::Fixed(_),
-                ..
-            })
-        )
-    );
-    let called = symbol(start(b"&3"), none_seen());
-    assert!(rt; matches!(called, Ok(Parsed { value: 3, .. })));
-    let goal = label(start(b"@4"), none_seen());
-    assert!(rt; matches!(goal, Ok(Parsed { value: 4, .. })));
+    assert!(rt; is_fixed(register(start(b"arg0 := 1"), none_seen())));
+    assert_eq!(rt; digit(symbol(start(b"&3"), none_seen())), Some(3));
+    assert_eq!(rt; digit(label(start(b"@4"), none_seen())), Some(4));
 }

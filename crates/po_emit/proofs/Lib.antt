@@ -1,0 +1,4 @@
+pub mod Lists
+pub mod Lives
+pub mod Operands
+pub mod Turns

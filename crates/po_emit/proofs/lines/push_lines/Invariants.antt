@@ -1,0 +1,13 @@
+use Rattle.std.proofs.Common.{◌≡◌, ℕ, Bool, ◌++◌, drop}
+use Rattle.po_term.specs.Moves.{instrs_of}
+use Rattle.po_model.specs.declared.var.Var.TheVariants.{Cc}
+use Rattle.po_model.specs.LiveSets.{holds_at}
+use Rattle.po_model.specs.UnitCodes.{unit_of}
+use Rattle.po_model.specs.Assembly.{lines_from}
+use Rattle.po_emit.specs.Regs.{machine_at}
+use Rattle.po_emit.proofs.lines.push_lines.Given as goal
+
+-- the lines so far, and then those of the instructions behind
+abbrev pub invariant-loop-i : goal.invariant-loop-i
+invariant-loop-i l = (live : ℕ → ℕ → Bool) (b : ℕ) → ((i : ℕ) → live b i ≡ holds_at l.lives i Cc)
+    → l.out.items ++ lines_from l.m (machine_at l.regs) (unit_of l.u) live b l.i (instrs_of (drop l.i l.xs)) ≡ l.fn.out.items ++ lines_from l.m (machine_at l.regs) (unit_of l.u) live b 0 (instrs_of l.xs)
