@@ -8,6 +8,10 @@ mod names;
 mod print;
 mod read;
 mod sofar;
+#[cfg(test)]
+mod tests;
+mod tiny;
 
 pub use print::print_machine;
 pub use read::read_machine;
+pub use tiny::TINY;
