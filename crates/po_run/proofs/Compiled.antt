@@ -1,50 +1,35 @@
 -- The steps of compiling, one after another.
-use Rattle.std.proofs.Common.{◌≡◌, ℕ, List, [], ◌++◌, length, None, ap, sym, ◌∙◌, subst}
-use Rattle.std.specs.Prelude.{codes, slice_index}
-use Rattle.po_term.specs.declared.transfer.Instr.{Instr}
-use Rattle.po_term.specs.Moves.{instrs_of}
-use Rattle.po_run.specs.declared.model.Machine.{Machine}
-use Rattle.po_run.specs.declared.model.Unit.{Unit}
-use Rattle.po_run.specs.Naive.{naive, Instruction}
-use Rattle.po_run.specs.Fit.{first_unfit}
-use Rattle.po_run.specs.Placement.{intervals, IsUncrowded, IsCrowded, placement, machine_of}
-use Rattle.po_run.specs.Assembly.{lines_of, assembly}
-use Rattle.po_run.specs.Output.{IsRecognised, HasRoom}
-use Rattle.po_run.proofs.Writer.{lines_same}
+use Rattle.std.proofs.Common.{◌≡◌, ℕ, List, All, map, ap, ◌∙◌, subst, Err}
+use Rattle.po_ir.specs.declared.unit.Unit.{Unit as StackUnit}
+use Rattle.po_model.specs.declared.code.UnitCode.{UnitCode}
+use Rattle.po_model.specs.declared.machine.Machine.{Machine}
+use Rattle.po_model.specs.UnitCodes.{PlainUnit}
+use Rattle.po_model.specs.Naive.{naive}
+use Rattle.po_assign.specs.declared.answer.Placed.{Placed}
+use Rattle.po_run.specs.declared.refusal.Refusal.{Refusal}
+use Rattle.po_run.specs.declared.refusal.Refusal.TheVariants as refusal
+use Rattle.po_run.specs.Input.{Program}
+use Rattle.po_run.specs.Output.{FirstBad, Fits, HasRoom, IsShort, AreAssembled, naive_codes}
+use Rattle.po_run.specs.Steps.{units_of, placed_of, Assigned, Assembles}
 
--- what is written behind nothing, of a code that is seen through references
-pub written : (m : Machine) (out old seen name regs rs : List ℕ) (cs code : List Instr)
-    → out ≡ old ++ (seen ++ codes ":\n" ++ lines_of m (λ v. slice_index rs v) (instrs_of cs))
-    → old ≡ [] → seen ≡ name → rs ≡ regs → cs ≡ code
-    → out ≡ name ++ codes ":\n" ++ lines_of m (λ v. slice_index regs v) (instrs_of code)
-written m out old seen name regs rs cs code e a b c d =
-    e
-    ∙ ap (λ front. front ++ (seen ++ codes ":\n" ++ lines_of m (λ v. slice_index rs v) (instrs_of cs))) a
-    ∙ ap (λ n. n ++ codes ":\n" ++ lines_of m (λ v. slice_index rs v) (instrs_of cs)) b
-    ∙ ap (λ (ks : List ℕ). name ++ codes ":\n" ++ lines_of m (λ v. slice_index ks v) (instrs_of cs)) c
-    ∙ ap (λ is. name ++ codes ":\n" ++ lines_of m (λ v. slice_index regs v) (instrs_of is)) d
-
--- a code that is recognised and placed is written as the assembly of its unit
-pub assembled : (m : Machine) (u : Unit) (n : ℕ) (is : List Instruction) (regs out : List ℕ)
-    → is ≡ naive u.ops → n ≡ length m.regs → first_unfit m.entries is ≡ None → IsUncrowded n (intervals is)
-    → ((v : ℕ) → machine_of (placement n is) v ≡ slice_index regs v)
-    → out ≡ u.name ++ codes ":\n" ++ lines_of m (λ v. slice_index regs v) is
-    → IsRecognised m u × HasRoom m u × (out ≡ assembly m u)
-assembled m u n is regs out same count fits room at e =
-    let room_here : IsUncrowded n (intervals (naive u.ops)) = subst (λ (js : List Instruction). IsUncrowded n (intervals js)) same room in
-    let at_here : (v : ℕ) → machine_of (placement n (naive u.ops)) v ≡ slice_index regs v = subst (λ (js : List Instruction). (v : ℕ) → machine_of (placement n js) v ≡ slice_index regs v) same at in
-    let at_count : (v : ℕ) → machine_of (placement (length m.regs) (naive u.ops)) v ≡ slice_index regs v = subst (λ (k : ℕ). (v : ℕ) → machine_of (placement k (naive u.ops)) v ≡ slice_index regs v) count at_here in (
-      ap (first_unfit m.entries) (sym same) ∙ fits,
-      subst (λ (k : ℕ). IsUncrowded k (intervals (naive u.ops))) count room_here,
-      e
-          ∙ ap (λ js. u.name ++ codes ":\n" ++ lines_of m (λ v. slice_index regs v) js) same
-          ∙ ap (λ ls. u.name ++ codes ":\n" ++ ls) (lines_same m (λ v. slice_index regs v) (machine_of (placement (length m.regs) (naive u.ops))) (naive u.ops) (λ v. sym (at_count v))),
+pub compiled : (m : Machine) (us seen : List StackUnit) (cs cd : List UnitCode) (ps pd : List Placed) (out : List ℕ)
+    → units_of cs ≡ map naive seen → seen ≡ us → cd ≡ cs → All (Fits m) (units_of cd) → placed_of ps ≡ units_of cs → All (HasRoom m) (units_of cs) → pd ≡ ps → AreAssembled m (placed_of pd) out
+    → All (Fits m) (naive_codes us) × All (HasRoom m) (naive_codes us) × AreAssembled m (naive_codes us) out
+compiled m us seen cs cd ps pd out e s d fits p room q written =
+    let codes : units_of cs ≡ naive_codes us = e ∙ ap naive_codes s in (
+      subst (λ (us : List PlainUnit). All (Fits m) us) (ap units_of d ∙ codes) fits,
+      subst (λ (us : List PlainUnit). All (HasRoom m) us) codes room,
+      subst (λ (us : List PlainUnit). AreAssembled m us out) (ap placed_of q ∙ p ∙ codes) written,
     )
 
--- a code with a crowded point
-pub crowded : (m : Machine) (u : Unit) (n : ℕ) (is : List Instruction) (point needed : ℕ)
-    → is ≡ naive u.ops → n ≡ length m.regs → first_unfit m.entries is ≡ None → IsCrowded n (intervals is) point needed
-    → IsRecognised m u × IsCrowded (length m.regs) (intervals (naive u.ops)) point needed
-crowded m u n is point needed same count fits short =
-    let here : IsCrowded n (intervals (naive u.ops)) point needed = subst (λ (js : List Instruction). IsCrowded n (intervals js) point needed) same short in
-    (ap (first_unfit m.entries) (sym same) ∙ fits, subst (λ (k : ℕ). IsCrowded k (intervals (naive u.ops)) point needed) count here)
+-- the refusal of a code that is recognised
+pub refused : (p : Program) (seen : List StackUnit) (cs cd : List UnitCode) (r : Refusal)
+    → units_of cs ≡ map naive seen → seen ≡ p.units → cd ≡ cs → All (Fits p.machine) (units_of cd) → Assigned p.machine (units_of cs) (Err r) → Assembles p (Err r)
+refused p seen cs cd (refusal.BadText line col kind) e s d fits h = h
+refused p seen cs cd (refusal.Unrecognised unit block index) e s d fits h = absurd h
+refused p seen cs cd (refusal.TooFew unit point needed) e s d fits h =
+    let codes : units_of cs ≡ naive_codes p.units = e ∙ ap naive_codes s in (
+      subst (λ (us : List PlainUnit). All (Fits p.machine) us) (ap units_of d ∙ codes) fits,
+      subst (λ (us : List PlainUnit). FirstBad (HasRoom p.machine) (IsShort p.machine point needed) us unit) codes h,
+    )
+refused p seen cs cd refusal.OutOfMemory e s d fits h = tt

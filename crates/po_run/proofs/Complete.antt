@@ -1,25 +1,24 @@
 -- A text that has an output compiles, unless memory is wanted or the source or the sink fails.
-use Rattle.std.proofs.Common.{◌≡◌, ℕ, ◌+◌, ◌-◌, ◌^◌, ◌<◌, ◌≤◌, List, [], ◌++◌, length, Option, Some, None, refl, ap, sym, ◌∙◌, subst, arith}
+use Rattle.std.proofs.Common.{◌≡◌, ℕ, zero, suc, ◌+◌, ◌-◌, ◌^◌, ◌<◌, ◌≤◌, List, [], ◌∷◌, ◌++◌, length, All, Option, Some, None, Result, Ok, Err, Bool, true, false, IsTrue, refl, ap, sym, ◌∙◌, subst, arith, ◌⊎◌, inl, inr}
 use Rattle.std.proofs.lemmas.List.{append-nil, length-append}
 use Rattle.std.specs.Prelude.{◌↔◌}
 use Rattle.std.specs.declared.string.String.{String}
 use Rattle.std.specs.declared.alloc.Global.{Global}
 use Rattle.po_text.specs.Causes.{Rose, before_known}
-use Rattle.po_text.specs.declared.fault.Kind.TheVariants as kind
-use Rattle.po_run.specs.declared.model.Machine.{Machine}
-use Rattle.po_run.specs.declared.model.Unit.{Unit}
+use Rattle.po_text.specs.declared.fault.Kind.{Kind}
+use Rattle.po_lines.specs.Faults.{TextFault, text_fault}
+use Rattle.po_ir.specs.declared.unit.Unit.{Unit as StackUnit}
+use Rattle.po_model.specs.declared.machine.Machine.{Machine}
+use Rattle.po_model.specs.UnitCodes.{PlainUnit, flat}
+use Rattle.po_model.specs.Blocks.{instrs_at}
+use Rattle.po_model.specs.Fit.{fit}
+use Rattle.po_model.specs.Fitted.{IsUnrecognised, instr_at}
+use Rattle.po_model.specs.Placement.{intervals, count_at}
 use Rattle.po_run.specs.declared.status.Status.{Status}
 use Rattle.po_run.specs.declared.status.Status.TheVariants as status
-use Rattle.po_run.specs.Input.{IsInput}
-use Rattle.po_run.specs.Naive.{naive}
-use Rattle.po_run.specs.Fit.{first_unfit}
-use Rattle.po_run.specs.Placement.{intervals, IsUncrowded}
-use Rattle.po_run.specs.Output.{IsOutside, IsUnfit, IsShort, IsRecognised, HasRoom}
+use Rattle.po_run.specs.Input.{Program, input_in, IsInput}
+use Rattle.po_run.specs.Output.{FirstBad, Fits, HasRoom, IsShort, HasUnfit, HasCrowd, naive_codes}
 use Rattle.po_run.specs.Statuses.{IsNaive, ReadsWhole, OnReadFault, OnBadText, OnUnrecognised, OnTooFew, OnWriteFault, IsComplete}
-
--- a text is the printed form of one description and one unit
-abbrev pub OneInput : Type 0
-OneInput = (text : List ℕ) (m n : Machine) (u v : Unit) → IsInput text m u → IsInput text n v → (m ≡ n) × (u ≡ v)
 
 calm_not_rose : (before now : ℕ) → now ≡ before → before < 2 ^ 64 - 1 → Rose before now → ⊥
 calm_not_rose before now e small rose = grind arith
@@ -43,44 +42,72 @@ too_long None text bytes e fits long = cc
 too_long (Some rest) text bytes e fits long =
     let same : length text ≡ length bytes + length rest = ap length (let whole : text ≡ bytes ++ rest = cc in whole) ∙ length-append bytes rest in omega arith
 
--- a text that compiles has no other end
-not_outside : (text : List ℕ) (m : Machine) (u : Unit) → IsInput text m u → IsOutside text → ⊥
-not_outside text m u is out = out m u is
+-- what has an output has no other end
 
-not_unfit : OneInput → (text : List ℕ) (m : Machine) (u : Unit) (index : ℕ) → IsInput text m u → IsRecognised m u → IsUnfit text index → ⊥
-not_unfit one text m u index is fits unfit =
-    let same = one text m unfit.0 u unfit.1 is unfit.2 in
-    let none : first_unfit unfit.0.entries (naive unfit.1.ops) ≡ None = subst (λ (n : Machine). first_unfit n.entries (naive unfit.1.ops) ≡ None) same.0 (subst (λ (v : Unit). first_unfit m.entries (naive v.ops) ≡ None) same.1 fits) in
-    cc (none, unfit.3)
+ok_same : {A E : Type 0} (x y : A) → ◌≡◌ {A = Result A E} (Ok x) (Ok y) → x ≡ y
+ok_same x y e = cc
+
+not_fault : {A E : Type 0} (r : Result A E) (x : A) (f : E) → r ≡ Ok x → r ≡ Err f → ⊥
+not_fault r x f e g = cc
+
+all_not_bad : {X : Type 0} (P Q : X → Type 0) (xs : List X) (n : ℕ) → ((x : X) → P x → Q x → ⊥) → All P xs → FirstBad P Q xs n → ⊥
+all_not_bad P Q [] n apart all bad = bad
+all_not_bad P Q (x ∷ xs) zero apart all bad = apart x (all zero x (omega arith)) bad
+all_not_bad P Q (x ∷ xs) (suc n) apart all bad = all_not_bad P Q xs n apart (λ k d h. all (suc k) d (omega arith)) bad.1
+
+same_answer : (a b : Bool) (X : Type 0) → (IsTrue a ↔ X) → (IsTrue b ↔ X) → a ≡ b
+same_answer true true X f g = refl
+same_answer true false X f g = let no : IsTrue false = g.1 (f.0 refl) in cc
+same_answer false true X f g = let no : IsTrue false = f.1 (g.0 refl) in cc
+same_answer false false X f g = refl
+
+not_both : {A : Type 0} {r : Option A} (x : A) → r ≡ Some x → r ≡ None → ⊥
+not_both x e f = cc
+
+fits_or_not : (m : Machine) (b i : ℕ) (u : PlainUnit) → Fits m u → IsUnrecognised u.code m b i → ⊥
+fits_or_not m b i u fits unfit =
+    let same : fits.0 b i ≡ unfit.live b i = same_answer (fits.0 b i) (unfit.live b i) _ (fits.1 b i unfit.there) (unfit.tells b i unfit.there) in
+    let found = fits.2 b i unfit.there in
+    not_both found.0 found.1 (subst (λ (l : Bool). fit m l (instr_at i (instrs_at u.code b)) ≡ None) (sym same) unfit.unfit)
 
 not_over : (n needed count : ℕ) → n < needed → needed ≡ count → count ≤ n → ⊥
 not_over n needed count a e b = omega arith
 
-not_short : OneInput → (text : List ℕ) (m : Machine) (u : Unit) (point needed : ℕ) → IsInput text m u → HasRoom m u → IsShort text point needed → ⊥
-not_short one text m u point needed is room short =
-    let same = one text m short.0 u short.1 is short.2 in
-    let wide : IsUncrowded (length short.0.regs) (intervals (naive short.1.ops)) = subst (λ (n : Machine). IsUncrowded (length n.regs) (intervals (naive short.1.ops))) same.0 (subst (λ (v : Unit). IsUncrowded (length m.regs) (intervals (naive v.ops))) same.1 room) in
-    not_over _ _ _ short.4.over short.4.count (wide point)
+room_or_not : (m : Machine) (point needed : ℕ) (u : PlainUnit) → HasRoom m u → IsShort m point needed u → ⊥
+room_or_not m point needed u room short = not_over _ _ _ short.over short.count (room point)
 
-pub complete : OneInput → (words : List (String Global)) (s : Status) (old new kept_old kept_new : Option (List ℕ)) (before now before_written now_written : ℕ)
+same_input : (text : List ℕ) (m n : Machine) (us vs : List StackUnit) → IsInput text m us → IsInput text n vs → (m ≡ n) × (us ≡ vs)
+same_input text m n us vs e f =
+    let same : ◌≡◌ {A = Program} (record { machine = m; units = us }) (record { machine = n; units = vs }) = ok_same _ _ (sym e ∙ f) in
+    (ap (λ p. p.machine) same, ap (λ p. p.units) same)
+
+not_unfit : (text : List ℕ) (m : Machine) (us : List StackUnit) (n b i : ℕ) → IsInput text m us → All (Fits m) (naive_codes us) → HasUnfit text n b i → ⊥
+not_unfit text m us n b i is fits unfit =
+    let same = same_input text m unfit.0 us unfit.1 is unfit.2 in
+    let here : All (Fits unfit.0) (naive_codes unfit.1) = subst (λ (m : Machine). All (Fits m) (naive_codes unfit.1)) same.0 (subst (λ (us : List StackUnit). All (Fits m) (naive_codes us)) same.1 fits) in
+    all_not_bad (Fits unfit.0) (λ u. IsUnrecognised u.code unfit.0 b i) (naive_codes unfit.1) n (fits_or_not unfit.0 b i) here unfit.3
+
+not_crowded : (text : List ℕ) (m : Machine) (us : List StackUnit) (n point needed : ℕ) → IsInput text m us → All (HasRoom m) (naive_codes us) → HasCrowd text n point needed → ⊥
+not_crowded text m us n point needed is room crowd =
+    let same = same_input text m crowd.0 us crowd.1 is crowd.2 in
+    let here : All (HasRoom crowd.0) (naive_codes crowd.1) = subst (λ (m : Machine). All (HasRoom m) (naive_codes crowd.1)) same.0 (subst (λ (us : List StackUnit). All (HasRoom m) (naive_codes us)) same.1 room) in
+    all_not_bad (HasRoom crowd.0) (IsShort crowd.0 point needed) (naive_codes crowd.1) n (room_or_not crowd.0 point needed) here crowd.4
+
+not_bad : (text : List ℕ) (m : Machine) (us : List StackUnit) (line col : ℕ) (kind : Kind) (old new : Option (List ℕ)) → old ≡ Some text → length text ≤ 4194304 → IsInput text m us → OnBadText (status.BadText line col kind) old new → ⊥
+not_bad text m us line col kind old new e fits is (inl read) =
+    let f : input_in text ≡ Err (text_fault line col kind) = subst (λ (t : List ℕ). input_in t ≡ Err (text_fault line col kind)) (same_text old new text read.0 e read.1) read.2 in
+    not_fault (input_in text) _ _ is f
+not_bad text m us line col kind old new e fits is (inr long) = too_long new text long.0 (sym e ∙ long.3) fits long.2
+
+pub complete : (words : List (String Global)) (s : Status) (old new kept_old kept_new : Option (List ℕ)) (before now before_written now_written : ℕ)
     → ((s ≡ status.Usage) ↔ (IsNaive words → ⊥)) → OnReadFault s before now → OnBadText s old new → OnUnrecognised s old new → OnTooFew s old new
     → OnWriteFault s old new before_written now_written kept_old kept_new
     → IsComplete words s old before now before_written now_written
-complete one words status.Done old new ko kn b n bw nw usage fault bad unfit few wrote text m u naive told fits is recognised room calm small calm_sink small_sink = tt
-complete one words status.OutOfMemory old new ko kn b n bw nw usage fault bad unfit few wrote text m u naive told fits is recognised room calm small calm_sink small_sink = tt
-complete one words status.Usage old new ko kn b n bw nw usage fault bad unfit few wrote text m u naive told fits is recognised room calm small calm_sink small_sink = usage.0 refl naive
-complete one words status.ReadFault old new ko kn b n bw nw usage fault bad unfit few wrote text m u naive told fits is recognised room calm small calm_sink small_sink = calm_not_rose b n calm small fault.1
-complete one words (status.BadText line col kind.Word) old new ko kn b n bw nw usage fault bad unfit few wrote text m u naive told fits is recognised room calm small calm_sink small_sink =
-    let whole = bad.2 in
-    not_outside text m u is (subst IsOutside (same_text old new text whole.0 told whole.1) whole.2)
-complete one words (status.BadText line col kind.TooMany) old new ko kn b n bw nw usage fault bad unfit few wrote text m u naive told fits is recognised room calm small calm_sink small_sink =
-    too_long new text bad.0 (sym told ∙ bad.2) fits bad.1
-complete one words (status.BadText line col kind) old new ko kn b n bw nw usage fault bad unfit few wrote text m u naive told fits is recognised room calm small calm_sink small_sink = bad
-complete one words (status.Unrecognised unit block index) old new ko kn b n bw nw usage fault bad unfit few wrote text m u naive told fits is recognised room calm small calm_sink small_sink =
-    let whole = unfit.2 in
-    not_unfit one text m u index is recognised (subst (λ (t : List ℕ). IsUnfit t index) (same_text old new text whole.0 told whole.1) whole.2)
-complete one words (status.TooFew unit point needed) old new ko kn b n bw nw usage fault bad unfit few wrote text m u naive told fits is recognised room calm small calm_sink small_sink =
-    let whole = few.1 in
-    not_short one text m u point needed is room (subst (λ (t : List ℕ). IsShort t point needed) (same_text old new text whole.0 told whole.1) whole.2)
-complete one words (status.WriteFault written) old new ko kn b n bw nw usage fault bad unfit few wrote text m u naive told fits is recognised room calm small calm_sink small_sink =
-    calm_not_rose bw nw calm_sink small_sink wrote.7
+complete words status.Done old new ko kn b n bw nw usage fault bad unfit few wrote text m us naive told fits is recognised room calm small calm_sink small_sink = tt
+complete words status.OutOfMemory old new ko kn b n bw nw usage fault bad unfit few wrote text m us naive told fits is recognised room calm small calm_sink small_sink = tt
+complete words status.Usage old new ko kn b n bw nw usage fault bad unfit few wrote text m us naive told fits is recognised room calm small calm_sink small_sink = usage.0 refl naive
+complete words status.ReadFault old new ko kn b n bw nw usage fault bad unfit few wrote text m us naive told fits is recognised room calm small calm_sink small_sink = calm_not_rose b n calm small fault.1
+complete words (status.BadText line col kind) old new ko kn b n bw nw usage fault bad unfit few wrote text m us naive told fits is recognised room calm small calm_sink small_sink = not_bad text m us line col kind old new told fits is bad
+complete words (status.Unrecognised unit block index) old new ko kn b n bw nw usage fault bad unfit few wrote text m us naive told fits is recognised room calm small calm_sink small_sink = not_unfit text m us unit block index is recognised (subst (λ (t : List ℕ). HasUnfit t unit block index) (same_text old new text unfit.0 told unfit.1) unfit.2)
+complete words (status.TooFew unit point needed) old new ko kn b n bw nw usage fault bad unfit few wrote text m us naive told fits is recognised room calm small calm_sink small_sink = not_crowded text m us unit point needed is room (subst (λ (t : List ℕ). HasCrowd t unit point needed) (same_text old new text few.0 told few.1) few.2)
+complete words (status.WriteFault written) old new ko kn b n bw nw usage fault bad unfit few wrote text m us naive told fits is recognised room calm small calm_sink small_sink = calm_not_rose bw nw calm_sink small_sink wrote.7

@@ -1,14 +1,5 @@
 pub mod Input
-pub mod Naive
-pub mod Fit
-pub mod Placement
-pub mod Numbered
-pub mod Spans
-pub mod Places
-pub mod Assembly
 pub mod Output
-pub mod Notes
 pub mod Statuses
-pub mod Found
-pub mod Stack
-pub mod Reading
+pub mod Notes
+pub mod Steps

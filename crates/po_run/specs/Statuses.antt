@@ -1,39 +1,36 @@
 -- What each status of the top call says of the source, the sink and the text.
-use Rattle.std.specs.Prelude.{ℕ, ◌-◌, ◌^◌, ◌≤◌, ◌<◌, ◌≡◌, List, [], ◌∷◌, length, take, map, codes, Option, Some, Result, Ok, Err, IfSome, string_bytes, ⊤}
+use Rattle.std.specs.Prelude.{ℕ, ◌-◌, ◌^◌, ◌≤◌, ◌<◌, ◌≡◌, List, [], ◌∷◌, length, take, map, codes, All, Option, Some, Result, Ok, Err, IfSome, string_bytes, ⊤}
 use Rattle.std.specs.declared.string.String.{String}
 use Rattle.std.specs.declared.vec.Vec.{Vec}
 use Rattle.std.specs.declared.alloc.Global.{Global}
+use mathlib.Core.Logic.{◌⊎◌}
 use Rattle.po_text.specs.Causes.{Rose, before_known, after_known}
 use Rattle.po_text.specs.Place.{place_behind}
-use Rattle.po_text.specs.declared.fault.Kind.TheVariants.{Word, TooMany}
-use Rattle.po_run.specs.declared.model.Machine.{Machine}
-use Rattle.po_run.specs.declared.model.Unit.{Unit}
+use Rattle.po_text.specs.declared.fault.Kind.TheVariants.{TooMany}
+use Rattle.po_lines.specs.Faults.{text_fault}
+use Rattle.po_ir.specs.declared.unit.Unit.{Unit as StackUnit}
+use Rattle.po_model.specs.declared.machine.Machine.{Machine}
 use Rattle.po_run.specs.declared.status.Status.{Status}
 use Rattle.po_run.specs.declared.status.Status.TheVariants as status
-use Rattle.po_run.specs.declared.compile.Refusal.{Refusal}
-use Rattle.po_run.specs.declared.compile.Refusal.TheVariants as refusal
-use Rattle.po_run.specs.Input.{IsInput}
-use Rattle.po_run.specs.Naive.{naive}
-use Rattle.po_run.specs.Fit.{first_unfit}
-use Rattle.po_run.specs.Placement.{intervals, IsCrowded}
-use Rattle.po_run.specs.Assembly.{assembly}
-use Rattle.po_run.specs.Output.{IsOutside, IsOutput, IsUnfit, IsShort, IsRecognised, HasRoom}
-
--- what compiling a description and a unit gives
-abbrev pub Assembles : Machine → Unit → Result (Vec ℕ Global) Refusal → Type 0
-Assembles m u (Ok out) = IsRecognised m u × HasRoom m u × (out.items ≡ assembly m u)
-Assembles m u (Err refusal.Outside) = ⊥
-Assembles m u (Err (refusal.Unfit index)) = first_unfit m.entries (naive u.ops) ≡ Some index
-Assembles m u (Err (refusal.Short point needed)) = IsRecognised m u × IsCrowded (length m.regs) (intervals (naive u.ops)) point needed
-Assembles m u (Err refusal.Memory) = ⊤
+use Rattle.po_run.specs.declared.refusal.Refusal.{Refusal}
+use Rattle.po_run.specs.declared.refusal.Refusal.TheVariants as refusal
+use Rattle.po_run.specs.Input.{input_in, IsInput}
+use Rattle.po_run.specs.Output.{IsOutput, HasUnfit, HasCrowd, Fits, HasRoom, naive_codes}
 
 -- what compiling a text gives
 abbrev pub Compiles : List ℕ → Result (Vec ℕ Global) Refusal → Type 0
 Compiles text (Ok out) = IsOutput text out.items
-Compiles text (Err refusal.Outside) = IsOutside text
-Compiles text (Err (refusal.Unfit index)) = IsUnfit text index
-Compiles text (Err (refusal.Short point needed)) = IsShort text point needed
-Compiles text (Err refusal.Memory) = ⊤
+Compiles text (Err (refusal.BadText line col kind)) = input_in text ≡ Err (text_fault line col kind)
+Compiles text (Err (refusal.Unrecognised unit block index)) = HasUnfit text unit block index
+Compiles text (Err (refusal.TooFew unit point needed)) = HasCrowd text unit point needed
+Compiles text (Err refusal.OutOfMemory) = ⊤
+
+-- the status of a refusal
+abbrev pub status_for : Refusal → Status
+status_for (refusal.BadText line col kind) = status.BadText line col kind
+status_for (refusal.Unrecognised unit block index) = status.Unrecognised unit block index
+status_for (refusal.TooFew unit point needed) = status.TooFew unit point needed
+status_for refusal.OutOfMemory = status.OutOfMemory
 
 -- the words are the single word `naive`
 abbrev pub IsNaive : List (String Global) → Type 0
@@ -50,21 +47,21 @@ abbrev pub OnDone : Status → Option (List ℕ) → Option (List ℕ) → Optio
 OnDone status.Done old new kept_old kept_new = (text : List ℕ) × (out : List ℕ) × ReadsWhole old new text × IsOutput text out × (kept_new ≡ after_known kept_old out)
 OnDone s old new kept_old kept_new = ⊤
 
--- the text is outside the grammar, or too long: then the place is that of the first byte too many
+-- the first fault of the text, or the first byte past the limit of an input
 abbrev pub OnBadText : Status → Option (List ℕ) → Option (List ℕ) → Type 0
-OnBadText (status.BadText line col Word) old new = (line ≡ 1) × (col ≡ 1) × ((text : List ℕ) × ReadsWhole old new text × IsOutside text)
-OnBadText (status.BadText line col TooMany) old new = (text : List ℕ) × (4194304 < length text) × (old ≡ before_known text new) × ((line, col) ≡ place_behind (take 4194304 text))
-OnBadText (status.BadText line col kind) old new = ⊥
+OnBadText (status.BadText line col kind) old new =
+    ((text : List ℕ) × ReadsWhole old new text × (input_in text ≡ Err (text_fault line col kind)))
+    ⊎ ((text : List ℕ) × (kind ≡ TooMany) × (4194304 < length text) × (old ≡ before_known text new) × ((line, col) ≡ place_behind (take 4194304 text)))
 OnBadText s old new = ⊤
 
 -- the first instruction that no entry fits
 abbrev pub OnUnrecognised : Status → Option (List ℕ) → Option (List ℕ) → Type 0
-OnUnrecognised (status.Unrecognised unit block index) old new = (unit ≡ 0) × (block ≡ 0) × ((text : List ℕ) × ReadsWhole old new text × IsUnfit text index)
+OnUnrecognised (status.Unrecognised unit block index) old new = (text : List ℕ) × ReadsWhole old new text × HasUnfit text unit block index
 OnUnrecognised s old new = ⊤
 
--- every instruction is recognised, and this is the first crowded point
+-- every instruction is recognised, and this is the first crowded point of the first unit that has one
 abbrev pub OnTooFew : Status → Option (List ℕ) → Option (List ℕ) → Type 0
-OnTooFew (status.TooFew unit point needed) old new = (unit ≡ 0) × ((text : List ℕ) × ReadsWhole old new text × IsShort text point needed)
+OnTooFew (status.TooFew unit point needed) old new = (text : List ℕ) × ReadsWhole old new text × HasCrowd text unit point needed
 OnTooFew s old new = ⊤
 
 -- the sink failed, and took so many bytes of the output
@@ -95,7 +92,7 @@ IsDoneOrMemory s = ⊥
 
 -- a text that has an output compiles, unless memory is wanted, where neither source nor sink failed
 abbrev pub IsComplete : List (String Global) → Status → Option (List ℕ) → ℕ → ℕ → ℕ → ℕ → Type 0
-IsComplete words s left before now before_written now_written = (text : List ℕ) (m : Machine) (u : Unit)
-    → IsNaive words → left ≡ Some text → length text ≤ 4194304 → IsInput text m u → IsRecognised m u → HasRoom m u
+IsComplete words s left before now before_written now_written = (text : List ℕ) (m : Machine) (us : List StackUnit)
+    → IsNaive words → left ≡ Some text → length text ≤ 4194304 → IsInput text m us → All (Fits m) (naive_codes us) → All (HasRoom m) (naive_codes us)
     → now ≡ before → before < 2 ^ 64 - 1 → now_written ≡ before_written → before_written < 2 ^ 64 - 1
     → IsDoneOrMemory s

@@ -1,23 +1,17 @@
 //! The program without its edge: from bytes to assembly, with a status for each way that it can end.
 //!
-//! `model` has the data of a description and a unit. The definitions that the top call cites stand in specs/: `Input` (the text of
-//! a description and a unit), `Naive`, `Fit`, `Placement`, `Assembly`, `Output`.
+//! `input` reads the text, `units` takes all units through one step each, `compile` puts the steps together, `serial` is the top call,
+//! `notes` tells its end. The definitions that the top call cites stand in specs/: `Input` (what a text says), `Output` (what it
+//! compiles to, and why it doesn't), `Statuses`, `Notes`.
 #![tactic(auto)]
 
 mod compile;
-mod emit;
-mod expand;
-mod fit;
-mod limits;
-mod lines;
-pub mod model;
+mod input;
 mod notes;
-mod place;
-mod read;
-mod read_error;
+mod refusal;
 mod serial;
 mod status;
-mod template;
+mod units;
 
 pub use serial::po_serial;
 pub use status::Status;

@@ -4,11 +4,12 @@
 ghost use Rattle.std.specs.Prelude.{◌≡◌, ◌↔◌, ◌<◌, ◌-◌, ◌^◌, codes, IsTrue};
 ghost use Rattle.po_text.specs.Causes.{after_known};
 ghost use Rattle.po_run.specs.Notes.{note_line};
-ghost use Rattle.po_run.specs.Statuses.{IsNaive, OnDone, OnUsage, OnReadFault, OnBadText, OnUnrecognised, OnTooFew, OnWriteFault, WritesNothing, IsComplete};
+ghost use Rattle.po_run.specs.Statuses.{IsNaive, OnDone, OnUsage, OnReadFault, OnBadText, OnUnrecognised, OnTooFew, OnWriteFault, WritesNothing, IsComplete, status_for};
 
 use crate::Status;
-use crate::compile::{Refusal, compile};
+use crate::compile::compile;
 use crate::notes::tell;
+use crate::refusal::Refusal;
 use po_text::{Kind, ReadRefusal, Sink, Source, read_all, write_all};
 use std::alloc::Global;
 
@@ -27,6 +28,26 @@ fn is_naive(words: &[String]) -> bool
     match words {
         [word] => is_naive_word(word.as_str()),
         _ => false,
+    }
+}
+
+/// The status of a refusal.
+fn status_of(refusal: Refusal) -> Status
+    ensures { result ≡ status_for refusal }
+{
+    match refusal {
+        Refusal::BadText { line, col, kind } => Status::BadText { line, col, kind },
+        Refusal::Unrecognised { unit, block, index } => Status::Unrecognised { unit, block, index },
+        Refusal::TooFew {
+            unit,
+            point,
+            needed,
+        } => Status::TooFew {
+            unit,
+            point,
+            needed,
+        },
+        Refusal::OutOfMemory => Status::OutOfMemory,
     }
 }
 
@@ -59,28 +80,7 @@ fn run<S: Source, K: Sink>(alloc: Global, words: &[String], source: &mut S, sink
     };
     let out = match compile(alloc, &text) {
         Ok(out) => out,
-        Err(Refusal::Outside) => {
-            return Status::BadText {
-                line: 1,
-                col: 1,
-                kind: Kind::Word,
-            };
-        }
-        Err(Refusal::Unfit(index)) => {
-            return Status::Unrecognised {
-                unit: 0,
-                block: 0,
-                index,
-            };
-        }
-        Err(Refusal::Short { point, needed }) => {
-            return Status::TooFew {
-                unit: 0,
-                point,
-                needed,
-            };
-        }
-        Err(Refusal::Memory) => return Status::OutOfMemory,
+        Err(refusal) => return status_of(refusal),
     };
     match write_all(sink, &out) {
         Ok(()) => Status::Done,

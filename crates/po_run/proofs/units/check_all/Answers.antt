@@ -1,0 +1,23 @@
+use Rattle.std.proofs.Common.{◌≡◌, ℕ, suc, zero, subst, sym, ◌∙◌, arith}
+use Rattle.po_model.specs.UnitCodes.{unit_of, IsUnitCode}
+use Rattle.po_model.specs.Fitted.{IsUnrecognised}
+use Rattle.po_run.specs.Output.{Fits, FirstBad}
+use Rattle.po_run.specs.Steps.{units_of}
+use Rattle.po_run.proofs.Each.{all_at, good_next, bad_next, bad_here}
+use Rattle.po_run.proofs.Refused.{unrecognised}
+use Rattle.po_run.proofs.units.check_all.Goals as goal
+
+pub check-requires-clause-formed : goal.check-requires-clause-formed
+check-requires-clause-formed c = all_at IsUnitCode unit_of c.args.codes.now c.loop-code.code-index c.code-item.result c.requires.formed c.loop-code-test.true c.code-item.is
+
+pub returns-in-Err-Unrecognised : goal.returns-in-Err-Unrecognised
+returns-in-Err-Unrecognised c = rw (c.loop-code.invariant.counted, c.in-Err-Unrecognised.block-is, c.in-Err-Unrecognised.index-is)
+    (bad_here (Fits c.args.machine.now) (λ u. IsUnrecognised u.code c.args.machine.now c.in-Err-Unrecognised.block c.in-Err-Unrecognised.index) unit_of c.args.codes.now c.args.codes.now c.loop-code.code-index c.code-item.result
+    c.loop-code-test.true c.code-item.is (unrecognised c.args.machine.now (unit_of c.code-item.result) _ _ _ c.in-Err-Unrecognised.field-0-is c.in-Err-Unrecognised.ensures) (c.loop-code.invariant.bad _ _ zero))
+
+pub loop-code-preserved : goal.loop-code-preserved
+loop-code-preserved c = record {
+  counted = omega (arith, c.loop-code.invariant.counted);
+  good = good_next (Fits c.args.machine.now) unit_of c.args.codes.now c.loop-code.code-index c.code-item.result _ c.loop-code-test.true c.code-item.is c.in-Ok.ensures c.loop-code.invariant.good;
+  bad = λ b i k. bad_next (Fits c.args.machine.now) (λ u. IsUnrecognised u.code c.args.machine.now b i) unit_of c.args.codes.now c.args.codes.now c.loop-code.code-index k c.code-item.result c.loop-code-test.true c.code-item.is c.in-Ok.ensures (c.loop-code.invariant.bad b i (suc k));
+}
