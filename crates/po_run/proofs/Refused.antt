@@ -7,7 +7,7 @@ use Rattle.po_text.specs.declared.fault.ReadRefusal.{ReadRefusal}
 use Rattle.po_text.specs.declared.fault.ReadRefusal.TheVariants as read
 use Rattle.po_expand.specs.declared.refusal.CheckRefusal.{CheckRefusal}
 use Rattle.po_expand.specs.declared.refusal.CheckRefusal.TheVariants as check
-use Rattle.po_expand.specs.Checked.{Checks}
+use Rattle.po_expand.specs.Checks.{Checks}
 use Rattle.po_assign.specs.declared.answer.AssignRefusal.{AssignRefusal}
 use Rattle.po_assign.specs.declared.answer.AssignRefusal.TheVariants as assign
 use Rattle.po_assign.specs.Refusals.{Refuses}
