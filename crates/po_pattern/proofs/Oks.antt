@@ -46,3 +46,6 @@ weaker P Q (Err e) f h = tt
 
 pub true_false : true ≡ false → ⊥
 true_false e = cc
+
+pub told_read : {T : Type 0} (Q : Read T → Type 0) (p : Parsed T) (m : Result (Read T) LineFault) → m ≡ Ok (read_of p) → IfOk m Q → Q (read_of p)
+told_read Q p m e h = let P : Result (Read _) LineFault → Type 0 = λ r. IfOk r Q in subst P e h

@@ -1,17 +1,16 @@
 -- Each part has a byte: behind what is read fewer bytes are left. So a term is whole behind as many parts as bytes are left.
-use Rattle.std.proofs.Common.{◌≡◌, ℕ, zero, suc, ◌+◌, ◌-◌, ◌<◌, ◌≤◌, List, [], ◌∷◌, Bool, true, false, Result, Ok, Err, Option, Some, None, refl, sym, ap, subst, arith, IfOk, length, take, drop}
-use Rattle.std.specs.Prelude.{⊤, IfSome, ◌==◌, cond, ℤ, codes}
+use Rattle.std.proofs.Common.{◌≡◌, ℕ, zero, suc, ◌<◌, ◌≤◌, List, [], ◌∷◌, Bool, true, false, Result, Ok, Option, Some, None, refl, sym, subst, arith, IfOk, length, take, drop}
+use Rattle.std.specs.Prelude.{⊤, IfSome, ◌==◌, ℤ, codes}
 use Rattle.std.specs.List.{prefix_len}
 use Rattle.std.proofs.lemmas.List.{length-drop}
 use Rattle.po_word.specs.declared.operator.Bin.{Bin}
 use Rattle.po_word.specs.declared.operator.Bin.TheVariants.{Add, Sub, Mul, And, Or, Xor, Shl, Sar, Shr}
 use Rattle.po_text.specs.Words.{is_blank}
-use Rattle.po_name.specs.Names.{is_digit, is_name_byte}
+use Rattle.po_name.specs.Names.{is_name_byte}
 use Rattle.po_term.specs.declared.term.Reg.{Reg}
 use Rattle.po_model.specs.declared.machine.PatReg.{PatReg}
 use Rattle.po_model.specs.declared.machine.PatTerm.{PatTerm}
 use Rattle.po_lines.specs.declared.fault.LineFault.{LineFault}
-use Rattle.po_lines.specs.Faults.{◌>>=◌}
 use Rattle.po_lines.specs.Leaves.{same, number_in, signed_number_in}
 use Rattle.po_pattern.specs.declared.operands.Operands.{Operands}
 use Rattle.po_pattern.specs.declared.operands.OperandKind.{OperandKind}
@@ -227,6 +226,15 @@ steps_end (suc n) s h = ends_by n s (terms.is_whole s) refl (λ t g. weaker (End
 pub term_less : (r : Rest) (seen : Operands) → IfOk (terms.term r seen) (Below (left r))
 unfolding terms.term
 term_less r seen = ok_bind (Below {T = Turn} (left (skip_blanks r))) (Below (left r)) _ _ (wanted_less (skip_blanks r) seen) (λ t g. ok_bind (Ends (left t.rest)) (Below (left r)) _ _ (steps_end (length r.bytes) (record { frames = []; turn = t }) (omega (arith, skip_most r))) (λ s h. omega (arith, skip_most r)))
+
+keyword_less : (r : Rest) (seen : Operands) (n : ℕ) → left r ≤ n → IfOk (terms.term r seen) (Below n)
+keyword_less r seen n h = weaker (Below (left r)) (Below n) (terms.term r seen) (λ p e. omega (arith, e)) (term_less r seen)
+
+pub address_less : (r : Rest) (seen : Operands) → IfOk (terms.address r seen) (Below (left r))
+unfolding terms.address
+address_less r seen = let rest : Rest = behind (prefix_len is_name_byte r.bytes) r in
+    ok_if (Below {T = Option PatTerm} (left r)) (same (parts.name_here r) (codes "M")) _ _ (λ e. ok_bind (Less (left r)) (Below (left r)) (mark 91 (skip_blanks rest)) _ (mark_less 91 (skip_blanks rest) (left r) (omega (arith, skip_most rest, drop_most (prefix_len is_name_byte r.bytes) r.bytes)))
+    (λ opened a. ok_bind (Below {T = Option PatTerm} (left r)) (Below (left r)) _ _ (keyword_less opened seen (left r) (omega (arith, a))) (λ t b. ok_bind (Less (left r)) (Below (left r)) _ _ (mark_behind 93 t.rest (left r) b) (λ close d. d)))) tt
 
 -- the steps that a term is given are enough
 pub term_ends : (r : Rest) (seen : Operands) (first : Read Turn) → terms.wanted (skip_blanks r) seen ≡ Ok first → IfOk (terms.steps (length r.bytes) (record { frames = []; turn = first })) (λ s. terms.is_whole s ≡ true)

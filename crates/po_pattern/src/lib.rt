@@ -10,6 +10,7 @@
 mod built;
 mod cursor;
 mod frames;
+mod laws;
 mod leaf;
 mod numbers;
 mod operands;
@@ -23,6 +24,7 @@ mod turns;
 mod whole;
 
 pub use cursor::{Cursor, Parsed};
+pub use laws::term_ends;
 pub use leaf::{label, register, symbol};
 pub use numbers::number;
 pub use operands::{OperandKind, Operands, none_seen};

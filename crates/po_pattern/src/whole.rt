@@ -28,6 +28,7 @@ pub fn term<'a>(
     seen: Operands,
 ) -> Result<Parsed<'a, Option<PatTerm>>, LineError>
     ensures gives { Gives read_of result (terms.term (rest_of cursor.entry) seen) }
+    ensures shorter { IfOk result (λ p. length p.rest.bytes.now < length cursor.entry.bytes.now) }
     ensures formed { IfOk result (λ p. IsKeptTerm p.value) }
 {
     let read = read_term(alloc, cursor, seen)?;
@@ -154,6 +155,7 @@ pub fn address<'a>(
     seen: Operands,
 ) -> Result<Parsed<'a, Option<PatTerm>>, LineError>
     ensures gives { Gives read_of result (terms.address (rest_of cursor.entry) seen) }
+    ensures shorter { IfOk result (λ p. length p.rest.bytes.now < length cursor.entry.bytes.now) }
     ensures formed { IfOk result (λ p. IsKeptTerm p.value) }
 {
     let read = read_address(alloc, cursor, seen)?;
