@@ -35,7 +35,7 @@ pub fn term<'a>(
     Ok(read)
 }
 
-/// The same.
+/// A whole term, from its first part on.
 #[tactic(auto, unfolding(crate::specs::Terms::term))]
 fn read_term<'a>(
     alloc: Global,
@@ -162,7 +162,7 @@ pub fn address<'a>(
     Ok(read)
 }
 
-/// The same.
+/// The address between `M[` and `]`.
 #[tactic(auto, unfolding(crate::specs::Terms::address))]
 fn read_address<'a>(
     alloc: Global,
