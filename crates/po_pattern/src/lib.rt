@@ -28,6 +28,6 @@ pub use cursor::{Cursor, Parsed};
 pub use laws::term_ends;
 pub use leaf::{label, register, symbol};
 pub use numbers::number;
-pub use operands::{OperandKind, Operands, none_seen};
+pub use operands::{OperandKind, Operands, kind_of, none_seen};
 pub use places::{begins, behind, mark, name_length, skip_blanks, start};
 pub use whole::{address, term};
