@@ -35,3 +35,17 @@ ok_marked Q v seen (Err e) h = tt
 -- what is so of what the definition reads is so of what the code reads
 pub told : {T : Type 0} (Q : T → Type 0) (p : Parsed T) (m : Result (Read T) LineFault) → m ≡ Ok (read_of p) → IfOk m (λ x. Q x.value) → Q p.value
 told Q p m e h = let P : Result (Read _) LineFault → Type 0 = λ r. IfOk r (λ x. Q x.value) in subst P e h
+
+pub any_ok : {A E : Type 0} (m : Result A E) (P : Type 0) → P → IfOk m (λ x. P)
+any_ok (Ok x) P h = h
+any_ok (Err e) P h = tt
+
+pub weaker : {A E : Type 0} (P Q : A → Type 0) (m : Result A E) → ((x : A) → P x → Q x) → IfOk m P → IfOk m Q
+weaker P Q (Ok x) f h = f x h
+weaker P Q (Err e) f h = tt
+
+pub true_false : true ≡ false → ⊥
+true_false e = cc
+
+pub told_read : {T : Type 0} (Q : Read T → Type 0) (p : Parsed T) (m : Result (Read T) LineFault) → m ≡ Ok (read_of p) → IfOk m Q → Q (read_of p)
+told_read Q p m e h = let P : Result (Read _) LineFault → Type 0 = λ r. IfOk r Q in subst P e h

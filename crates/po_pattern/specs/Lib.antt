@@ -2,5 +2,6 @@ pub mod Rests
 pub mod Seen
 pub mod Parts
 pub mod Terms
+pub mod Whole
 pub mod Readings
 pub mod Formed

@@ -27,7 +27,7 @@ pub fn register<'a>(cursor: Cursor<'a>, seen: Operands) -> Result<Parsed<'a, Pat
     Ok(read)
 }
 
-/// The same.
+/// A register, by its first byte.
 #[tactic(auto, unfolding(crate::specs::Parts::register))]
 fn read_register<'a>(cursor: Cursor<'a>, seen: Operands) -> Result<Parsed<'a, PatReg>, LineError>
     ensures { Gives read_of result (parts.register (rest_of cursor.entry) seen) }

@@ -3,13 +3,15 @@
 //! behind it and the operands seen so far, or gives the first fault from left to right. It is proved equal to a
 //! definition on lists; only want of memory is left open.
 //!
-//! `cursor` is a place of a line; `operands` the operands seen so far; `number`, `leaf` read one part; `frame` has the
-//! parts of a term that are open; `term` reads a whole term.
+//! `cursor` is a place of a line and what was read from there on; `places` goes on in a line; `operands` has the operands
+//! seen so far; `numbers`, `ranges` and `leaf` read one part; `turns` says what may stand where a term is wanted and behind
+//! a whole part; `whole` reads a whole term; `laws` says that it is read to its end.
 #![tactic(auto)]
 
 mod built;
 mod cursor;
 mod frames;
+mod laws;
 mod leaf;
 mod numbers;
 mod operands;
@@ -23,8 +25,9 @@ mod turns;
 mod whole;
 
 pub use cursor::{Cursor, Parsed};
+pub use laws::term_ends;
 pub use leaf::{label, register, symbol};
 pub use numbers::number;
-pub use operands::{OperandKind, Operands, none_seen};
+pub use operands::{OperandKind, Operands, kind_of, none_seen};
 pub use places::{begins, behind, mark, name_length, skip_blanks, start};
 pub use whole::{address, term};

@@ -28,13 +28,14 @@ pub fn term<'a>(
     seen: Operands,
 ) -> Result<Parsed<'a, Option<PatTerm>>, LineError>
     ensures gives { Gives read_of result (terms.term (rest_of cursor.entry) seen) }
+    ensures shorter { IfOk result (λ p. length p.rest.bytes.now < length cursor.entry.bytes.now) }
     ensures formed { IfOk result (λ p. IsKeptTerm p.value) }
 {
     let read = read_term(alloc, cursor, seen)?;
     Ok(read)
 }
 
-/// The same.
+/// A whole term, from its first part on.
 #[tactic(auto, unfolding(crate::specs::Terms::term))]
 fn read_term<'a>(
     alloc: Global,
@@ -154,13 +155,14 @@ pub fn address<'a>(
     seen: Operands,
 ) -> Result<Parsed<'a, Option<PatTerm>>, LineError>
     ensures gives { Gives read_of result (terms.address (rest_of cursor.entry) seen) }
+    ensures shorter { IfOk result (λ p. length p.rest.bytes.now < length cursor.entry.bytes.now) }
     ensures formed { IfOk result (λ p. IsKeptTerm p.value) }
 {
     let read = read_address(alloc, cursor, seen)?;
     Ok(read)
 }
 
-/// The same.
+/// The address between `M[` and `]`.
 #[tactic(auto, unfolding(crate::specs::Terms::address))]
 fn read_address<'a>(
     alloc: Global,
