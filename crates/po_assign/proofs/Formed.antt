@@ -1,5 +1,5 @@
 -- A unit's code has at most four transfers in an instruction.
-use Rattle.std.proofs.Common.{◌≡◌, ℕ, ◌≤◌, ◌<◌, List, [], ◌∷◌, length, zero, suc, arith}
+use Rattle.std.proofs.Common.{◌≤◌, List, [], ◌∷◌, length, suc, arith}
 use Rattle.std.specs.List.{All}
 use Rattle.std.proofs.lemmas.List.Elements.{All-append}
 use Rattle.po_term.specs.Form.{WellFormed}

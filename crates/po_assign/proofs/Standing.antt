@@ -1,8 +1,8 @@
 -- The state of placement between two intervals, and what it gives at the end and where no register is free.
-use Rattle.std.proofs.Common.{◌≡◌, ℕ, ◌+◌, ◌<◌, ◌≤◌, List, [], ◌∷◌, ◌++◌, length, get_or, set, map, reverse, refl, sym, ap, ◌∙◌, zero, suc, arith, Bool, true, false, cond, ◌&&◌, ◌||◌, ◌==◌, nat_le, replicate, inl, inr, get_or-set_same, get_or-set_other}
+use Rattle.std.proofs.Common.{◌≡◌, ℕ, ◌+◌, ◌<◌, ◌≤◌, List, [], ◌∷◌, ◌++◌, length, get_or, set, map, reverse, refl, sym, ◌∙◌, zero, suc, arith, Bool, true, false, cond, ◌&&◌, ◌||◌, ◌==◌, nat_le, replicate, inl, inr, get_or-set_same, get_or-set_other}
 use Rattle.std.specs.List.{count_by, All}
 use Rattle.std.proofs.lemmas.Bool.{eq-eqb, ne_eqb, le-leb, lt-leb, leb-true, leb-false, and_parts, or_parts, cases_lt, cases_eq}
-use Rattle.std.proofs.lemmas.List.{length-set, get_or_past, get_or-replicate, length-replicate}
+use Rattle.std.proofs.lemmas.List.{length-set, get_or-replicate, length-replicate}
 use Rattle.std.proofs.lemmas.List.Sums.{sum_by-set, sum_by-cons, count_by-le-length}
 use Rattle.std.proofs.lemmas.List.Elements.{All-push}
 use Rattle.std.proofs.lemmas.Grind.{reverse_onto}

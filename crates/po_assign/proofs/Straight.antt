@@ -1,5 +1,5 @@
 -- A small unit has what every unit's code has.
-use Rattle.std.proofs.Common.{◌≡◌, ℕ, ◌<◌, ◌≤◌, Bool, true, false, List, [], ◌∷◌, ◌++◌, length, zero, suc, arith, refl, sym, subst, None}
+use Rattle.std.proofs.Common.{◌≡◌, ℕ, Bool, true, false, List, [], ◌∷◌, zero, suc, arith, refl, None}
 use Rattle.std.specs.Prelude.{◌||◌, ◌==◌, Contains}
 use Rattle.std.proofs.lemmas.Bool.{eqb-true, false≢true}
 use Rattle.po_term.specs.declared.term.Reg.TheVariants.{Virt, Rv}
@@ -12,7 +12,7 @@ use Rattle.po_model.specs.declared.var.Var.TheVariants.{Reg}
 use Rattle.po_model.specs.declared.code.UnitCode.{UnitCode}
 use Rattle.po_model.specs.Blocks.{PlainBlock, PlainInstr, EndsLast, code_of}
 use Rattle.po_model.specs.LiveAfter.{reads}
-use Rattle.po_model.specs.UnitCodes.{PlainUnit, IsUnitCode, IsNamedBlock, NamedMove, ReadsBehind, unit_of}
+use Rattle.po_model.specs.UnitCodes.{IsUnitCode, IsNamedBlock, NamedMove, ReadsBehind, unit_of}
 
 abbrev pub set_zero : PlainInstr
 set_zero = SetTo (Virt 0) (Const 7) ∷ []

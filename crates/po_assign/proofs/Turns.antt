@@ -1,10 +1,10 @@
 -- A turn of the loop that places spans.
-use Rattle.std.proofs.Common.{◌≡◌, ℕ, ◌+◌, ◌<◌, ◌≤◌, List, [], ◌∷◌, ◌++◌, length, get_or, set, drop, map, reverse, refl, sym, subst, ap, ◌∙◌, arith}
+use Rattle.std.proofs.Common.{◌≡◌, ℕ, ◌+◌, ◌<◌, ◌≤◌, List, [], ◌∷◌, ◌++◌, length, get_or, set, drop, map, reverse, sym, subst, ap, ◌∙◌, arith}
 use Rattle.std.specs.List.{All, count_by}
 use Rattle.std.specs.Prelude.{◌==◌}
 use Rattle.po_model.specs.Placement.{Interval, count_at, IsCrowded, IsUncrowded, place_from, pair_of}
 use Rattle.po_assign.specs.declared.spans.Span.{Span}
-use Rattle.po_assign.specs.Spans.{interval_from, Rising}
+use Rattle.po_assign.specs.Spans.{interval_from}
 use Rattle.po_assign.proofs.Lists.{next_at, behind_all}
 use Rattle.po_assign.proofs.Standing.{Standing, starts_count, standing_step, standing_crowded, standing_uncrowded, standing_pairs}
 

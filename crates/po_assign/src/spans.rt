@@ -77,11 +77,7 @@ fn push_block(
 }
 
 /// The spans of a code with these last reads.
-pub fn spans_of(
-    alloc: Global,
-    last: &LastReads,
-    blocks: &[Block],
-) -> Result<Vec<Span>, OutOfMemory>
+pub fn spans_of(alloc: Global, last: &LastReads, blocks: &[Block]) -> Result<Vec<Span>, OutOfMemory>
     requires { length (flat (map block_of blocks.now)) < 2 ^ 29 }
     ensures { IfOk result (λ spans. spans.items ≡ spans_from (read_at last.now) 0 (flat (map block_of blocks.now))) }
 {

@@ -117,7 +117,11 @@ const CASES: [Case; 9] = [
     (
         "points are counted over all blocks",
         1,
-        &[&[Con(0), Move(0)], &[], &[Con(1), Con(2), Sum(3, 1, 2), Ret]],
+        &[
+            &[Con(0), Move(0)],
+            &[],
+            &[Con(1), Con(2), Sum(3, 1, 2), Ret],
+        ],
         Want::Crowded(7, 2),
     ),
     ("no machine register", 0, &[&[Con(0)]], Want::Crowded(1, 1)),
@@ -220,7 +224,12 @@ fn are_given(placing: &Placing, want: Want) -> bool {
 }
 
 #[tactic(auto, using(crate::proofs::Small::small_short, crate::proofs::Small::small_each))]
-fn is_placed(alloc: Global, count: usize, blocks: &[Block], want: Want) -> Result<bool, OutOfMemory> {
+fn is_placed(
+    alloc: Global,
+    count: usize,
+    blocks: &[Block],
+    want: Want,
+) -> Result<bool, OutOfMemory> {
     if !is_small(blocks) || count > 64 {
         return Ok(false);
     }

@@ -15,7 +15,11 @@ use po_word::OutOfMemory;
 use std::alloc::Global;
 
 /// Places the virtual registers of a code on machine registers, 0 to `count` - 1.
-pub(crate) fn place_code(alloc: Global, count: usize, blocks: &[Block]) -> Result<Placing, OutOfMemory>
+pub(crate) fn place_code(
+    alloc: Global,
+    count: usize,
+    blocks: &[Block],
+) -> Result<Placing, OutOfMemory>
     requires few { count ≤ 64 }
     requires short { length (flat (map block_of blocks.now)) < 2 ^ 29 }
     requires each { All (λ i. length i ≤ 4) (flat (map block_of blocks.now)) }

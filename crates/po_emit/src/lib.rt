@@ -7,6 +7,8 @@
 mod fill;
 mod lines;
 mod names;
+#[cfg(test)]
+mod tests;
 mod unit;
 
 pub use unit::emit;

@@ -1,4 +1,4 @@
-use Rattle.std.proofs.Common.{◌≡◌, ◌+◌, ◌∙◌, ap, replicate, refl, rules, drop, count_by, ◌==◌, slice_index_or}
+use Rattle.std.proofs.Common.{◌≡◌, ◌+◌, ◌∙◌, ap, replicate, refl, rules, count_by, ◌==◌, slice_index_or}
 use Rattle.po_assign.specs.declared.spans.Span.{Span}
 use Rattle.po_assign.proofs.Lists.{rest_whole}
 use Rattle.po_assign.proofs.Standing.{standing_begin}

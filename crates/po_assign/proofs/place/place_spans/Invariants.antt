@@ -1,4 +1,4 @@
-use Rattle.std.proofs.Common.{◌≡◌, drop}
+use Rattle.std.proofs.Common.{drop}
 use Rattle.po_assign.proofs.Turns.{seen}
 use Rattle.po_assign.proofs.Standing.{Standing}
 use Rattle.po_assign.proofs.place.place_spans.Given as goal

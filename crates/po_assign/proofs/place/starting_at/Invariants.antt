@@ -1,4 +1,4 @@
-use Rattle.std.proofs.Common.{◌≡◌, ◌≤◌, ◌==◌, ◌+◌, drop, length, count_by}
+use Rattle.std.proofs.Common.{◌≡◌, ◌≤◌, ◌==◌, ◌+◌, drop, count_by}
 use Rattle.po_assign.specs.declared.spans.Span.{Span}
 use Rattle.po_assign.proofs.place.starting_at.Given as goal
 

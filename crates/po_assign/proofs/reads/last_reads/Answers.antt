@@ -1,4 +1,4 @@
-use Rattle.std.proofs.Common.{◌≡◌, ℕ, ◌∙◌, sym, ap, length, arith}
+use Rattle.std.proofs.Common.{◌≡◌, ◌∙◌, sym, length, arith}
 use Rattle.po_assign.specs.Reads.{read_at}
 use Rattle.po_assign.proofs.Lists.{block_count}
 use Rattle.po_assign.proofs.LastReads.{block_turn}

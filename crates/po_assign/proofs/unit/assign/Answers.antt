@@ -1,4 +1,4 @@
-use Rattle.std.proofs.Common.{◌≡◌, subst, length, List}
+use Rattle.std.proofs.Common.{subst, List}
 use Rattle.po_model.specs.declared.code.Block.{Block}
 use Rattle.po_model.specs.Blocks.{code_of}
 use Rattle.po_model.specs.Placement.{intervals, IsUncrowded}

@@ -1,4 +1,4 @@
-use Rattle.std.proofs.Common.{◌≡◌, ◌∙◌, ap, map, subst, sym}
+use Rattle.std.proofs.Common.{◌≡◌, ◌∙◌, ap, map, subst}
 use Rattle.std.specs.Prelude.{IfOk, List}
 use Rattle.po_assign.specs.declared.spans.Span.{Span}
 use Rattle.po_model.specs.Placement.{Interval, intervals}
