@@ -1,6 +1,6 @@
 -- A unit's naive code has what every code has.
-use Rattle.std.proofs.Common.{◌≡◌, ℕ, ◌+◌, ◌*◌, ◌<◌, ◌≤◌, true, List, [], ◌∷◌, ◌++◌, length, length-append, refl, sym, ◌∙◌, ap, subst, arith}
-use Rattle.std.specs.Prelude.{All, AllPairs, None, ⊤, ◌^◌, ◌≢◌}
+use Rattle.std.proofs.Common.{◌≡◌, ◌≤◌, true, List, [], ◌∷◌, ◌++◌, length, length-append, sym, ap, subst, arith}
+use Rattle.std.specs.Prelude.{All, AllPairs, None, ◌^◌, ◌≢◌}
 use Rattle.std.specs.List.{flat_map, AllByRecursion}
 use Rattle.std.proofs.lemmas.List.Elements.{All-weaker, recursion_from_All}
 use Rattle.po_term.specs.Form.{WellFormed}
@@ -10,13 +10,13 @@ use Rattle.po_ir.specs.declared.unit.Op.TheVariants as op
 use Rattle.po_ir.specs.declared.unit.Unit.{Unit as StackUnit}
 use Rattle.po_ir.specs.Ops.{label_in, labels_of, target_in}
 use Rattle.po_ir.specs.Units.{IsOp, IsUnit}
-use Rattle.po_model.specs.Blocks.{PlainInstr, PlainBlock}
-use Rattle.po_model.specs.Naive.{Text, Piece, pieces, sym_in, each_once, cut, blocks_in, naive}
-use Rattle.po_model.specs.UnitCodes.{flat, all_written, ReadsBehind, IsNamedBlock, IsUnitCode}
-use Rattle.po_expand.proofs.Cutting.{instrs_in, flat_cut, cut_few, instrs_few}
+use Rattle.po_model.specs.Blocks.{PlainInstr}
+use Rattle.po_model.specs.Naive.{Text, pieces, sym_in, each_once, blocks_in, naive}
+use Rattle.po_model.specs.UnitCodes.{all_written, ReadsBehind, IsNamedBlock, IsUnitCode}
+use Rattle.po_expand.proofs.Cutting.{flat_cut, cut_few, instrs_few}
 use Rattle.po_expand.proofs.Places.{all_has, all_once, once_few}
 use Rattle.po_expand.proofs.Pieces.{Knows, pieces_sound, pieces_few}
-use Rattle.po_expand.proofs.Sound.{Sound, GoodBlock, cut_ends, cut_good, sets_apart}
+use Rattle.po_expand.proofs.Sound.{GoodBlock, cut_ends, cut_good, sets_apart}
 use Rattle.po_expand.proofs.Units.{unit_fits}
 
 module _ {A : Type 0} (P : A → Type 0) where
@@ -38,9 +38,9 @@ module _ (labels syms : List Text) where
     front (λ l. has l labels ≡ true) (target_in o) (flat_map target_in os) t,
     front (λ s. has s syms ≡ true) (sym_in o) (flat_map sym_in os) s,
     knows os h.1
-      (back (λ l. has l labels ≡ true) (label_in o) (flat_map label_in os) l)
-      (back (λ l. has l labels ≡ true) (target_in o) (flat_map target_in os) t)
-      (back (λ s. has s syms ≡ true) (sym_in o) (flat_map sym_in os) s),
+        (back (λ l. has l labels ≡ true) (label_in o) (flat_map label_in os) l)
+        (back (λ l. has l labels ≡ true) (target_in o) (flat_map target_in os) t)
+        (back (λ s. has s syms ≡ true) (sym_in o) (flat_map sym_in os) s),
   )
 
 -- an operation names at most one label, and one symbol
@@ -89,9 +89,9 @@ unit_code u h =
     let few_labels : length labels ≤ 2 ^ 32 = omega (arith, once_few (labels_of u.ops), flat_few label_in one_label u.ops, h.few) in
     let few_syms : length syms ≤ 2 ^ 32 = omega (arith, once_few (flat_map sym_in u.ops), flat_few sym_in one_sym u.ops, h.few) in
     let known = knows labels syms u.ops (recursion_from_All IsOp u.ops h.each)
-        (recursion_from_All (λ l. has l labels ≡ true) (labels_of u.ops) (all_once (labels_of u.ops) (labels_of u.ops) (all_has (labels_of u.ops))))
-        (recursion_from_All (λ l. has l labels ≡ true) (flat_map target_in u.ops) (all_once (labels_of u.ops) (flat_map target_in u.ops) h.targets))
-        (recursion_from_All (λ s. has s syms ≡ true) (flat_map sym_in u.ops) (all_once (flat_map sym_in u.ops) (flat_map sym_in u.ops) (all_has (flat_map sym_in u.ops)))) in
+    (recursion_from_All (λ l. has l labels ≡ true) (labels_of u.ops) (all_once (labels_of u.ops) (labels_of u.ops) (all_has (labels_of u.ops))))
+    (recursion_from_All (λ l. has l labels ≡ true) (flat_map target_in u.ops) (all_once (labels_of u.ops) (flat_map target_in u.ops) h.targets))
+    (recursion_from_All (λ s. has s syms ≡ true) (flat_map sym_in u.ops) (all_once (flat_map sym_in u.ops) (flat_map sym_in u.ops) (all_has (flat_map sym_in u.ops)))) in
     let sound = pieces_sound labels syms few_labels few_syms 0 [] [] u.ops (omega (arith, h.few)) tt (unit_fits u h) known in
     let good = cut_good (length labels) (length syms) 0 (pieces labels syms 0 [] u.ops) sound in
     let code = blocks_in labels syms u.ops in

@@ -1,7 +1,6 @@
 -- What holds of the blocks of a code that was cut.
-use Rattle.std.proofs.Common.{◌≡◌, ℕ, suc, ◌+◌, ◌*◌, ◌<◌, ◌≤◌, Bool, true, false, List, [], ◌∷◌, ◌++◌, length, refl, sym, ◌∙◌, ap, subst, arith, append_assoc, length-append, Option, Some, None}
+use Rattle.std.proofs.Common.{◌≡◌, suc, ◌+◌, ◌≤◌, Bool, true, false, List, [], ◌∷◌, ◌++◌, length, refl, sym, ◌∙◌, ap, arith, append_assoc, length-append, Option, Some, None}
 use Rattle.std.specs.Prelude.{All, is_some, if◌then◌else◌}
-use Rattle.std.specs.List.{flat_map}
 use Rattle.std.proofs.lemmas.List.Elements.{All-nil, All-cons, All-append}
 use Rattle.po_term.specs.declared.term.Label.{Label}
 use Rattle.po_term.specs.Form.{PlainMove}
@@ -28,7 +27,7 @@ module _ (P : PlainBlock → Type 0) (J : Option Label → List PlainInstr → L
     (now : (named : Option Label) (is : List PlainInstr) (ps : List Piece) → J named is ps → P (record { label = named; instrs = is }))
     (mark : (named : Option Label) (is : List PlainInstr) (l : Label) (ps : List Piece) → J named is (Mark l ∷ ps) → J (Some l) [] ps)
     (stop : (named : Option Label) (is : List PlainInstr) (m : PlainMove) (ps : List Piece) → J named is (Does m ∷ ps) → ends_block m ≡ true
-      → P (record { label = named; instrs = is ++ (m ∷ []) ∷ [] }) × J None [] ps)
+    → P (record { label = named; instrs = is ++ (m ∷ []) ∷ [] }) × J None [] ps)
     (more : (named : Option Label) (is : List PlainInstr) (m : PlainMove) (ps : List Piece) → J named is (Does m ∷ ps) → ends_block m ≡ false → J named (is ++ (m ∷ []) ∷ []) ps) where
   pub cut_all : (named : Option Label) (is : List PlainInstr) (ps : List Piece) → J named is ps → All P (cut named is ps)
   cut_all named is [] j = unless_all P named is (now named is [] j)

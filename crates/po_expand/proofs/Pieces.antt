@@ -1,7 +1,7 @@
 -- Each piece of a unit's naive code is sound.
-use Rattle.std.proofs.Common.{◌≡◌, ℕ, zero, suc, ◌+◌, ◌-◌, ◌*◌, ◌<◌, ◌≤◌, Bool, true, false, List, [], ◌∷◌, ◌++◌, length, refl, sym, ◌∙◌, ap, subst, arith}
-use Rattle.std.specs.Prelude.{All, AllPairs, Contains, ⊤, ◌^◌, ◌≢◌, ◌||◌, ◌==◌}
-use Rattle.std.specs.List.{flat_map, AllByRecursion}
+use Rattle.std.proofs.Common.{◌≡◌, ℕ, suc, ◌+◌, ◌*◌, ◌<◌, ◌≤◌, Bool, true, false, List, [], ◌∷◌, ◌++◌, length, refl, sym, ◌∙◌, ap, subst, arith}
+use Rattle.std.specs.Prelude.{AllPairs, Contains, ⊤, ◌^◌, ◌≢◌, ◌||◌, ◌==◌}
+use Rattle.std.specs.List.{AllByRecursion}
 use Rattle.std.proofs.lemmas.Bool.{or_cases, false≢true, eqb-true}
 use Rattle.std.proofs.lemmas.List.Elements.{All-nil, All-cons, Contains-push, Contains-append_left}
 use mathlib.Core.Logic.{◌⊎◌, inl, inr}
@@ -12,7 +12,7 @@ use Rattle.po_term.specs.declared.term.Reg.{Reg as Register}
 use Rattle.po_term.specs.declared.term.Reg.TheVariants.{Virt, Fp, Rv, Arg}
 use Rattle.po_term.specs.declared.term.Sym.{Sym}
 use Rattle.po_term.specs.Tree.{Tree, Const, Leaf, Read, Unary, Binary, EachLeaf}
-use Rattle.po_term.specs.Terms.{Place, InReg, AtSym}
+use Rattle.po_term.specs.Terms.{Place, AtSym}
 use Rattle.po_term.specs.Moves.{GoTo, IfCc, CallOf, Return, SetTo, CcTo, StoreTo, Ends}
 use Rattle.po_term.specs.Form.{PlainMove, WellFormedTerm, WellFormedMove, WellFormed, GoesBefore}
 use Rattle.po_lines.specs.NameList.{has}
@@ -22,11 +22,11 @@ use Rattle.po_ir.specs.Ops.{label_in, target_in}
 use Rattle.po_ir.specs.Units.{IsOp}
 use Rattle.po_model.specs.declared.var.Var.TheVariants.{Reg}
 use Rattle.po_model.specs.LiveAfter.{term_reads}
-use Rattle.po_model.specs.Naive.{Text, Piece, Mark, Does, sym_in, pieces, label, symbol, register, virt}
+use Rattle.po_model.specs.Naive.{Text, Piece, Does, sym_in, pieces, label, symbol, register, virt}
 use Rattle.po_model.specs.UnitCodes.{HasSym}
 use Rattle.po_expand.specs.Fits.{Fits}
 use Rattle.po_expand.proofs.Places.{number_below}
-use Rattle.po_expand.proofs.Sound.{Sound, ReadsOf}
+use Rattle.po_expand.proofs.Sound.{Sound}
 
 single_pairs : (m : PlainMove) → AllPairs GoesBefore (m ∷ [])
 single_pairs m = λ i j d h k. absurd (omega (arith, h, k))
@@ -162,9 +162,13 @@ module _ (labels syms : List Text) where
         (pieces_sound (k + 1) (set ++ k ∷ []) (k ∷ stack) os (omega (arith, b)) (put set stack k (omega (arith, b)) s.2) (refit os _ _ (omega arith) f.2) n.4)
     pieces_sound k set [] (op.Sto ∷ os) b s f n = tt
     pieces_sound k set (x ∷ []) (op.Sto ∷ os) b s f n = tt
-    pieces_sound k set (x ∷ a ∷ stack) (op.Sto ∷ os) b s f n =
-        (single_formed (StoreTo (virt a) (virt x)) (virt_formed a s.2.0, virt_formed x s.0), (tt, tt), λ v e. reads_two set a x v s.2.1 s.1 e, tt,
-        pieces_sound k (set ++ []) stack os (omega (arith, b)) (grow set [] stack s.2.2) (refit os _ _ (omega arith) f.2) n.4)
+    pieces_sound k set (x ∷ a ∷ stack) (op.Sto ∷ os) b s f n = (
+      single_formed (StoreTo (virt a) (virt x)) (virt_formed a s.2.0, virt_formed x s.0),
+      (tt, tt),
+      λ v e. reads_two set a x v s.2.1 s.1 e,
+      tt,
+      pieces_sound k (set ++ []) stack os (omega (arith, b)) (grow set [] stack s.2.2) (refit os _ _ (omega arith) f.2) n.4,
+    )
     pieces_sound k set [] (op.Bin o ∷ os) b s f n = tt
     pieces_sound k set (x ∷ []) (op.Bin o ∷ os) b s f n = tt
     pieces_sound k set (x ∷ a ∷ stack) (op.Bin o ∷ os) b s f n =
@@ -180,31 +184,61 @@ module _ (labels syms : List Text) where
     pieces_sound k set (a ∷ stack) (op.Pop ∷ os) b s f n = pieces_sound k set stack os (omega (arith, b)) s.2 (refit os _ _ (omega arith) f.2) n.4
     pieces_sound k set [] (op.Lab l ∷ os) b s f n = (number_below labels l n.1.0, pieces_sound k [] [] os (omega (arith, b)) tt f.2 n.4)
     pieces_sound k set (a ∷ stack) (op.Lab l ∷ os) b s f n = left_over (length stack) (f.1 refl)
-    pieces_sound k set [] (op.Jmp l ∷ os) b s f n =
-        (single_formed (Ends (GoTo (label labels syms l))) (label_fits l n.2.0), number_below labels l n.2.0, λ v e. absurd (false≢true e), tt,
-        pieces_sound k [] [] os (omega (arith, b)) tt f.2 n.4)
+    pieces_sound k set [] (op.Jmp l ∷ os) b s f n = (
+      single_formed (Ends (GoTo (label labels syms l))) (label_fits l n.2.0),
+      number_below labels l n.2.0,
+      λ v e. absurd (false≢true e),
+      tt,
+      pieces_sound k [] [] os (omega (arith, b)) tt f.2 n.4,
+    )
     pieces_sound k set (a ∷ stack) (op.Jmp l ∷ os) b s f n = left_over (length stack) (f.1 refl)
     pieces_sound k set [] (op.Br r l ∷ os) b s f n = tt
     pieces_sound k set (x ∷ []) (op.Br r l ∷ os) b s f n = tt
-    pieces_sound k set (x ∷ a ∷ []) (op.Br r l ∷ os) b s f n =
-        (single_formed (CcTo (virt a) (virt x)) (virt_formed a s.2.0, virt_formed x s.0), (tt, tt), λ v e. reads_two set a x v s.2.1 s.1 e, tt,
-        (single_formed (Ends (IfCc r (label labels syms l))) (label_fits l n.2.0), number_below labels l n.2.0, λ v e. absurd (false≢true e), tt,
-        pieces_sound k [] [] os (omega (arith, b)) tt (refit os _ _ (omega arith) f.2) n.4))
+    pieces_sound k set (x ∷ a ∷ []) (op.Br r l ∷ os) b s f n = (
+      single_formed (CcTo (virt a) (virt x)) (virt_formed a s.2.0, virt_formed x s.0),
+      (tt, tt),
+      λ v e. reads_two set a x v s.2.1 s.1 e,
+      tt,
+      (
+        single_formed (Ends (IfCc r (label labels syms l))) (label_fits l n.2.0),
+        number_below labels l n.2.0,
+        λ v e. absurd (false≢true e),
+        tt,
+        pieces_sound k [] [] os (omega (arith, b)) tt (refit os _ _ (omega arith) f.2) n.4,
+      ),
+    )
     pieces_sound k set (x ∷ a ∷ y ∷ stack) (op.Br r l ∷ os) b s f n = left_over_three (length stack) (f.1 refl)
     pieces_sound k set [] (op.Arg i ∷ os) b s f n = tt
-    pieces_sound k set (a ∷ stack) (op.Arg i ∷ os) b s f n =
-        (single_formed (SetTo (Arg i) (virt a)) (n.0, arg_not_fp i, virt_formed a s.0), tt, λ v e. reads_one set a v s.1 e, tt,
-        pieces_sound k (set ++ []) stack os (omega (arith, b)) (grow set [] stack s.2) (refit os _ _ (omega arith) f.2) n.4)
-    pieces_sound k set [] (op.Call g c ∷ os) b s f n =
-        (single_formed (Ends (CallOf (symbol labels syms g) c)) (symbol_fits g n.3.0, n.0.1), number_below syms g n.3.0, λ v e. absurd (false≢true e), tt,
-        defines k [] (register Rv) _ (omega (arith, b)) rv_formed tt (λ v e. absurd (false≢true e))
-        (pieces_sound (k + 1) (k ∷ []) (k ∷ []) os (omega (arith, b)) (put [] [] k (omega (arith, b)) tt) f.2 n.4))
+    pieces_sound k set (a ∷ stack) (op.Arg i ∷ os) b s f n = (
+      single_formed (SetTo (Arg i) (virt a)) (n.0, arg_not_fp i, virt_formed a s.0),
+      tt,
+      λ v e. reads_one set a v s.1 e,
+      tt,
+      pieces_sound k (set ++ []) stack os (omega (arith, b)) (grow set [] stack s.2) (refit os _ _ (omega arith) f.2) n.4,
+    )
+    pieces_sound k set [] (op.Call g c ∷ os) b s f n = (
+      single_formed (Ends (CallOf (symbol labels syms g) c)) (symbol_fits g n.3.0, n.0.1),
+      number_below syms g n.3.0,
+      λ v e. absurd (false≢true e),
+      tt,
+      defines k [] (register Rv) _ (omega (arith, b)) rv_formed tt (λ v e. absurd (false≢true e))
+          (pieces_sound (k + 1) (k ∷ []) (k ∷ []) os (omega (arith, b)) (put [] [] k (omega (arith, b)) tt) f.2 n.4),
+    )
     pieces_sound k set (a ∷ stack) (op.Call g c ∷ os) b s f n = left_over (length stack) (f.1 refl)
     pieces_sound k set [] (op.Ret ∷ os) b s f n = tt
-    pieces_sound k set (a ∷ []) (op.Ret ∷ os) b s f n =
-        (single_formed (SetTo Rv (virt a)) (tt, rv_not_fp, virt_formed a s.0), tt, λ v e. reads_one set a v s.1 e, tt,
-        (single_formed (Ends Return) tt, tt, λ v e. absurd (false≢true e), tt,
-        pieces_sound k [] [] os (omega (arith, b)) tt (refit os _ _ (omega arith) f.2) n.4))
+    pieces_sound k set (a ∷ []) (op.Ret ∷ os) b s f n = (
+      single_formed (SetTo Rv (virt a)) (tt, rv_not_fp, virt_formed a s.0),
+      tt,
+      λ v e. reads_one set a v s.1 e,
+      tt,
+      (
+        single_formed (Ends Return) tt,
+        tt,
+        λ v e. absurd (false≢true e),
+        tt,
+        pieces_sound k [] [] os (omega (arith, b)) tt (refit os _ _ (omega arith) f.2) n.4,
+      ),
+    )
     pieces_sound k set (a ∷ y ∷ stack) (op.Ret ∷ os) b s f n = left_over_two (length stack) (f.1 refl)
 
   -- at most two pieces for each operation

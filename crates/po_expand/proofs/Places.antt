@@ -1,11 +1,10 @@
 -- Each name of a unit has its number.
-use Rattle.std.proofs.Common.{◌≡◌, ℕ, suc, ◌+◌, ◌<◌, ◌≤◌, Bool, true, false, List, [], ◌∷◌, ◌++◌, length, get_or, refl, sym, ◌∙◌, ap, subst, arith, cond, length-append}
-use Rattle.std.specs.Prelude.{All, nat_eq, not, ◌||◌, if◌then◌else◌, IsTrue}
-use Rattle.std.specs.List.{list_any, flat_map, position_or_len, AllByRecursion}
+use Rattle.std.proofs.Common.{◌≡◌, suc, ◌+◌, ◌<◌, ◌≤◌, Bool, true, false, List, [], ◌∷◌, ◌++◌, length, get_or, refl, sym, ◌∙◌, ap, subst, arith, cond, length-append}
+use Rattle.std.specs.Prelude.{All, nat_eq, not, ◌||◌, if◌then◌else◌}
 use Rattle.std.specs.Cmp.Lexicographic.{pointwise, bytes_decides}
 use Rattle.std.proofs.lemmas.Bool.{or_cases, false≢true}
 use Rattle.std.proofs.lemmas.List.Folds.{list_any-append, list_any_at}
-use Rattle.std.proofs.lemmas.List.Elements.{All-weaker, recursion_from_All}
+use Rattle.std.proofs.lemmas.List.Elements.{All-weaker}
 use mathlib.Core.Logic.{◌⊎◌, inl, inr}
 use Rattle.po_lines.specs.NameList.{has}
 use Rattle.po_model.specs.Naive.{Text, with_name, names_behind, each_once, number_in}

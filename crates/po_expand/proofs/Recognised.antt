@@ -1,8 +1,8 @@
 -- Instructions that fit, block by block.
-use Rattle.std.proofs.Common.{◌≡◌, ℕ, zero, suc, ◌+◌, ◌<◌, ◌≤◌, Bool, true, false, List, [], ◌∷◌, ◌++◌, length, map, refl, sym, ◌∙◌, ap, subst, arith, slice_index_or, length-append, Option, Some, None, Result, Ok, Err}
-use Rattle.std.specs.Prelude.{is_some, ◌↔◌, IsTrue, ⊤}
+use Rattle.std.proofs.Common.{◌≡◌, ℕ, zero, suc, ◌<◌, Bool, true, false, List, [], ◌∷◌, length, map, refl, sym, ◌∙◌, ap, subst, arith, slice_index_or, length-append, Option, Some, None, Result, Ok, Err}
+use Rattle.std.specs.Prelude.{is_some, ⊤}
 use Rattle.std.specs.Global.{Vec}
-use mathlib.Core.Logic.{◌⊎◌, inl, inr}
+use mathlib.Core.Logic.{inl, inr}
 use Rattle.po_term.specs.declared.transfer.Instr.{Instr}
 use Rattle.po_term.specs.Moves.{instr_of, instrs_of}
 use Rattle.po_model.specs.declared.code.Block.{Block}
@@ -12,8 +12,7 @@ use Rattle.po_model.specs.declared.var.Var.{Var}
 use Rattle.po_model.specs.declared.var.Var.TheVariants.{Cc}
 use Rattle.po_model.specs.Blocks.{PlainInstr, PlainBlock, block_of, instrs_at}
 use Rattle.po_model.specs.Fit.{fit}
-use Rattle.po_model.specs.Fitted.{instr_at, TellsCc, FitsAt, IsBefore, IsRecognised, IsUnrecognised}
-use Rattle.po_model.specs.LiveAfter.{LiveAfter}
+use Rattle.po_model.specs.Fitted.{instr_at, TellsCc, FitsAt, IsBefore}
 use Rattle.po_model.specs.LiveSets.{holds, holds_at, lives_at}
 use Rattle.po_model.specs.UnitCodes.{flat}
 use Rattle.po_expand.specs.declared.refusal.CheckRefusal.{CheckRefusal}

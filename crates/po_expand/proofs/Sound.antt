@@ -1,8 +1,6 @@
 -- What holds of each piece of a unit's naive code, and of its blocks then.
 use Rattle.std.proofs.Common.{◌≡◌, ℕ, zero, suc, ◌+◌, ◌<◌, ◌≤◌, Bool, true, false, List, [], ◌∷◌, ◌++◌, length, get_or, refl, sym, ◌∙◌, ap, subst, arith, append_assoc, Option, Some, None}
-use Rattle.std.specs.Prelude.{All, AllPairs, Contains, is_some, if◌then◌else◌, ⊤, ◌^◌, ◌≢◌}
-use Rattle.std.specs.List.{flat_map}
-use Rattle.std.proofs.lemmas.Grind.{flat_map-append}
+use Rattle.std.specs.Prelude.{All, AllPairs, Contains, is_some, if◌then◌else◌, ⊤, ◌≢◌}
 use Rattle.std.proofs.lemmas.List.Elements.{All-nil, All-cons, All-push}
 use Rattle.po_term.specs.declared.term.Reg.TheVariants.{Virt, Fp, Rv, Arg}
 use Rattle.po_term.specs.declared.term.Label.{Label}
@@ -12,7 +10,7 @@ use Rattle.po_model.specs.declared.var.Var.TheVariants.{Reg}
 use Rattle.po_model.specs.Blocks.{PlainInstr, PlainBlock, ending_of, EndsLast}
 use Rattle.po_model.specs.LiveAfter.{reads}
 use Rattle.po_model.specs.Naive.{Piece, Mark, Does, cut}
-use Rattle.po_model.specs.UnitCodes.{flat, written, all_written, ReadsBehind, NamedMove, NamedLabel, IsNamedBlock}
+use Rattle.po_model.specs.UnitCodes.{written, all_written, ReadsBehind, NamedMove, NamedLabel, IsNamedBlock}
 use Rattle.po_expand.proofs.Cutting.{instrs_in, ends_block, cut_all}
 
 -- a move that sets a virtual register sets the register v with this number
@@ -112,8 +110,10 @@ module _ (labels syms : ℕ) where
 
   ended : (named : Option Label) (is : List PlainInstr) (m : PlainMove) (ps : List Piece) → Begun named is (Does m ∷ ps) → ends_block m ≡ true
       → GoodBlock (record { label = named; instrs = is ++ (m ∷ []) ∷ [] }) × Begun None [] ps
-  ended named is m ps g e = (more_instrs named is m ps g,
-    fresh None (next_after g.k m) ps tt (subst (λ (b : Bool). Sound labels syms (next_after g.k m) (if b then [] else all_written is ++ written (m ∷ [])) ps) e g.sound.4))
+  ended named is m ps g e = (
+    more_instrs named is m ps g,
+    fresh None (next_after g.k m) ps tt (subst (λ (b : Bool). Sound labels syms (next_after g.k m) (if b then [] else all_written is ++ written (m ∷ [])) ps) e g.sound.4),
+  )
 
   goes_on : (named : Option Label) (is : List PlainInstr) (m : PlainMove) (ps : List Piece) → Begun named is (Does m ∷ ps) → ends_block m ≡ false → Begun named (is ++ (m ∷ []) ∷ []) ps
   goes_on named is m ps g e =
@@ -125,7 +125,7 @@ module _ (labels syms : ℕ) where
         names = good.named.instrs;
         behind = good.behind;
         sound = subst (λ (s : List ℕ). Sound labels syms (next_after g.k m) s ps) (sym (written_push is m))
-          (subst (λ (b : Bool). Sound labels syms (next_after g.k m) (if b then [] else all_written is ++ written (m ∷ [])) ps) e g.sound.4);
+            (subst (λ (b : Bool). Sound labels syms (next_after g.k m) (if b then [] else all_written is ++ written (m ∷ [])) ps) e g.sound.4);
       }
 
   pub cut_good : (k : ℕ) (ps : List Piece) → Sound labels syms k [] ps → All GoodBlock (cut None [] ps)

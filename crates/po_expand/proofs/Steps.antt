@@ -1,5 +1,5 @@
 -- What an operation does to what stands before it.
-use Rattle.std.proofs.Common.{◌≡◌, ℕ, ◌+◌, ◌-◌, ◌≤◌, List, [], ◌∷◌, ◌++◌, length, refl, sym, append_assoc, arith}
+use Rattle.std.proofs.Common.{◌≡◌, ℕ, List, refl, sym, append_assoc, arith}
 use Rattle.po_word.specs.declared.operator.Bin.{Bin}
 use Rattle.po_word.specs.declared.operator.Bin.TheVariants.{Add}
 use Rattle.po_word.specs.declared.operator.Un.{Un}
@@ -7,8 +7,8 @@ use Rattle.po_word.specs.declared.operator.Rel.{Rel}
 use Rattle.po_term.specs.declared.term.Reg.TheVariants.{Fp, Rv, Arg}
 use Rattle.po_term.specs.declared.term.Label.{Label}
 use Rattle.po_term.specs.declared.term.Sym.{Sym}
-use Rattle.po_term.specs.Tree.{Tree, Const, Leaf, Read, Unary, Binary}
-use Rattle.po_term.specs.Terms.{Place, AtSym}
+use Rattle.po_term.specs.Tree.{Tree, Const, Read, Unary, Binary}
+use Rattle.po_term.specs.Terms.{Place}
 use Rattle.po_term.specs.Moves.{GoTo, IfCc, CallOf, Return, SetTo, CcTo, StoreTo, Ends}
 use Rattle.po_term.specs.Form.{PlainMove}
 use Rattle.po_ir.specs.declared.unit.Op.TheVariants as op

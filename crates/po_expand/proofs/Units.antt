@@ -1,13 +1,12 @@
 -- What a unit's operations say of the stack.
-use Rattle.std.proofs.Common.{◌≡◌, ℕ, ◌+◌, ◌<◌, ◌≤◌, List, [], ◌∷◌, ◌++◌, length, refl, sym, subst, ap, ◌∙◌, Bool, true, false, arith, rules}
+use Rattle.std.proofs.Common.{◌≡◌, ℕ, ◌≤◌, List, [], ◌∷◌, ◌++◌, refl, subst, Bool, true, false, arith}
 use Rattle.std.specs.Prelude.{None, Some, Option, nat_lt, ◌&&◌, if◌then◌else◌}
 use Rattle.std.proofs.lemmas.Bool.{ltb-false}
-use Rattle.po_text.specs.declared.fault.Kind.TheVariants as kind
 use Rattle.po_lines.specs.declared.fault.LineFault.{LineFault}
 use Rattle.po_ir.specs.declared.unit.Op.{Op}
 use Rattle.po_ir.specs.declared.unit.Unit.{Unit as StackUnit}
 use Rattle.po_ir.specs.Ops.{pops, is_boundary, depth_by, depth_from, depth_of}
-use Rattle.po_ir.specs.Faults.{decided, op_fault}
+use Rattle.po_ir.specs.Faults.{decided}
 use Rattle.po_ir.specs.Units.{Follow, IsUnit}
 use Rattle.po_expand.specs.Fits.{Fits}
 

@@ -1,6 +1,6 @@
-use Rattle.std.proofs.Common.{map, arith}
+use Rattle.std.proofs.Common.{arith}
 use Rattle.po_model.specs.declared.var.Var.TheVariants.{Cc}
-use Rattle.po_model.specs.Blocks.{block_of, code_of}
+use Rattle.po_model.specs.Blocks.{code_of}
 use Rattle.po_expand.proofs.Recognised.{block_few, checked}
 use Rattle.po_expand.proofs.fitting.check.Goals as goal
 

@@ -5,12 +5,15 @@ use Rattle.po_expand.proofs.Recognised.{fits_there, is_there}
 use Rattle.po_expand.proofs.fitting.check_block.Goals as goal
 
 pub returns-in-Ok-false : goal.returns-in-Ok-false
-returns-in-Ok-false c = (refl, record {
-  there = is_there c.args.instrs.now c.loop-i.i c.loop-i-test.true;
-  unfit = fits_there c.args.m.now c.args.lives.now c.args.instrs.now c.loop-i.i c.index-instrs-i.result c.index-lives-i.result c.in-Ok-false.field-0
-    c.loop-i-test.true c.requires.lengths c.index-instrs-i.is c.index-lives-i.is c.in-Ok-false.ensures ∙ c.in-Ok-false.field-0-test;
-  before = c.loop-i.invariant;
-})
+returns-in-Ok-false c = (
+  refl,
+  record {
+    there = is_there c.args.instrs.now c.loop-i.i c.loop-i-test.true;
+    unfit = fits_there c.args.m.now c.args.lives.now c.args.instrs.now c.loop-i.i c.index-instrs-i.result c.index-lives-i.result c.in-Ok-false.field-0
+        c.loop-i-test.true c.requires.lengths c.index-instrs-i.is c.index-lives-i.is c.in-Ok-false.ensures ∙ c.in-Ok-false.field-0-test;
+    before = c.loop-i.invariant;
+  },
+)
 
 pub loop-i-preserved : goal.loop-i-preserved
 loop-i-preserved c =

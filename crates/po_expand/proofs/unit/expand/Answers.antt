@@ -1,5 +1,3 @@
-use Rattle.std.proofs.Common.{subst}
-use Rattle.po_expand.specs.Fits.{Fits}
 use Rattle.po_expand.proofs.Units.{unit_fits}
 use Rattle.po_expand.proofs.unit.expand.Goals as goal
 
