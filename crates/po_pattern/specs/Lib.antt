@@ -3,3 +3,4 @@ pub mod Seen
 pub mod Parts
 pub mod Terms
 pub mod Readings
+pub mod Formed

@@ -53,11 +53,11 @@ of_register r = record { value = pat.Reg r.value; rest = r.rest; seen = r.seen }
 -- a register, a constant, a symbol's address, a number, by its first byte
 unfoldable pub marked_leaf : ℕ → Rest → Operands → Result (Read PatTerm) LineFault
 marked_leaf byte r seen = if byte == 37 then (do
-    register ← any_register r seen
-    Ok (of_register register))
-  else (if byte == 35 then constant r seen
-  else (if byte == 38 then symbol_address r seen
-  else numeral r seen))
+  register ← any_register r seen
+  Ok (of_register register))
+    else (if byte == 35 then constant r seen
+    else (if byte == 38 then symbol_address r seen
+    else numeral r seen))
 
 -- `M`, `neg` and `not` begin a part
 abbrev pub opening : List ℕ → Option Frame
@@ -91,10 +91,10 @@ begins_leaf byte = byte == 37 || byte == 35 || byte == 38 || byte == 45 || is_di
 abbrev pub wanted_with : Rest → Operands → List ℕ → Result (Read Turn) LineFault
 wanted_with r seen [] = wrong r
 wanted_with r seen (b ∷ bs) = if b == 40 then Ok (record { value = Opens frame.Left; rest = behind 1 r; seen = seen })
-  else (if begins_leaf b then (do
-    t ← marked_leaf b r seen
-    Ok (leaf t))
-  else named r seen)
+    else (if begins_leaf b then (do
+      t ← marked_leaf b r seen
+      Ok (leaf t))
+    else named r seen)
 
 unfoldable pub wanted : Rest → Operands → Result (Read Turn) LineFault
 wanted r seen = wanted_with r seen r.bytes
@@ -197,8 +197,8 @@ term r seen = do
 -- the address in `M[t]`
 unfoldable pub address : Rest → Operands → Result (Read (Option PatTerm)) LineFault
 address r seen = if same (name_here r) (codes "M") then (do
-    opened ← mark 91 (skip_blanks (behind (prefix_len is_name_byte r.bytes) r))
-    t ← term opened seen
-    close ← mark 93 (skip_blanks t.rest)
-    Ok (record { value = t.value; rest = close; seen = t.seen }))
-  else wrong r
+  opened ← mark 91 (skip_blanks (behind (prefix_len is_name_byte r.bytes) r))
+  t ← term opened seen
+  close ← mark 93 (skip_blanks t.rest)
+  Ok (record { value = t.value; rest = close; seen = t.seen }))
+    else wrong r

@@ -84,6 +84,10 @@ fn joined(alloc: Global, op: Bin, left: Part, right: Part) -> Result<Option<Part
 {
     let size = u64::from(left.size) + one_more(right.size);
     let depth = one_more(left.depth.max(right.depth));
-    let term = PatTerm::Bin(op, Boxed::new(alloc, left.term)?, Boxed::new(alloc, right.term)?);
+    let term = PatTerm::Bin(
+        op,
+        Boxed::new(alloc, left.term)?,
+        Boxed::new(alloc, right.term)?,
+    );
     Ok(kept(term, size, depth))
 }

@@ -5,12 +5,13 @@ ghost use Rattle.po_word.specs.Words.{word_of};
 ghost use Rattle.po_lines.specs.Faults.{Gives};
 ghost use Rattle.po_pattern.specs.Rests.{rest_of, read_of};
 ghost use Rattle.po_pattern.specs.Parts as parts;
+ghost use Rattle.po_pattern.specs.Formed.{IsPatReg};
 
 use crate::cursor::{Cursor, Parsed};
 use crate::numbers::number;
-use crate::ranges::operand;
 use crate::operands::{OperandKind, Operands};
 use crate::places::{begins, behind, name_length};
+use crate::ranges::operand;
 use po_lines::{LineError, fault_at};
 use po_model::{PatReg, PatTerm};
 use po_term::Reg;
@@ -18,8 +19,17 @@ use po_text::Kind;
 
 /// A register: `%k`, or one of `fp`, `rv`, `arg0` to `arg3` (docs/DESCRIPTION.md, "Entries"). Anything else is Word at its
 /// first byte; a digit of another kind is ListForm there.
-#[tactic(auto, unfolding(crate::specs::Parts::register))]
 pub fn register<'a>(cursor: Cursor<'a>, seen: Operands) -> Result<Parsed<'a, PatReg>, LineError>
+    ensures gives { Gives read_of result (parts.register (rest_of cursor.entry) seen) }
+    ensures formed { IfOk result (λ p. IsPatReg p.value) }
+{
+    let read = read_register(cursor, seen)?;
+    Ok(read)
+}
+
+/// The same.
+#[tactic(auto, unfolding(crate::specs::Parts::register))]
+fn read_register<'a>(cursor: Cursor<'a>, seen: Operands) -> Result<Parsed<'a, PatReg>, LineError>
     ensures { Gives read_of result (parts.register (rest_of cursor.entry) seen) }
 {
     if begins(cursor.bytes, b'%') {
@@ -31,10 +41,7 @@ pub fn register<'a>(cursor: Cursor<'a>, seen: Operands) -> Result<Parsed<'a, Pat
 
 /// `%k`
 #[tactic(auto, unfolding(crate::specs::Parts::any_register))]
-pub fn any_register<'a>(
-    cursor: Cursor<'a>,
-    seen: Operands,
-) -> Result<Parsed<'a, PatReg>, LineError>
+pub fn any_register<'a>(cursor: Cursor<'a>, seen: Operands) -> Result<Parsed<'a, PatReg>, LineError>
     ensures { Gives read_of result (parts.any_register (rest_of cursor.entry) seen) }
 {
     let digit = operand(OperandKind::Register, cursor, seen)?;

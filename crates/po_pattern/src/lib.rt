@@ -7,17 +7,18 @@
 //! parts of a term that are open; `term` reads a whole term.
 #![tactic(auto)]
 
-mod cursor;
 mod built;
+mod cursor;
 mod frames;
 mod leaf;
 mod numbers;
-mod part;
-
 mod operands;
+mod part;
 mod places;
 mod ranges;
 mod reading;
+#[cfg(test)]
+mod tests;
 mod turns;
 mod whole;
 

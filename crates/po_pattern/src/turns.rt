@@ -10,7 +10,7 @@ use crate::cursor::{Cursor, Parsed};
 use crate::leaf::{any_register, fixed_register, numeral, symbol_address};
 use crate::operands::Operands;
 use crate::part::{Frame, Part, Turn};
-use crate::places::{behind, begins, is_digit_byte, mark, name_length, skip_blanks};
+use crate::places::{begins, behind, is_digit_byte, mark, name_length, skip_blanks};
 use crate::ranges::constant;
 use po_lines::{LineError, fault_at};
 use po_model::{PatReg, PatTerm};

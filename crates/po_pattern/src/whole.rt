@@ -5,6 +5,7 @@ ghost use Rattle.po_lines.specs.Faults.{Gives};
 ghost use Rattle.po_pattern.specs.Rests.{rest_of, read_of};
 ghost use Rattle.po_pattern.specs.Terms as terms;
 ghost use Rattle.po_pattern.specs.Readings.{reading_of};
+ghost use Rattle.po_pattern.specs.Formed.{IsKeptTerm};
 
 use crate::cursor::{Cursor, Parsed};
 use crate::frames::{none_open, pop_frame, with_frame};
@@ -21,8 +22,21 @@ use std::alloc::Global;
 
 /// A whole term, blanks in front of it passed over (docs/DESCRIPTION.md, "Entries"). A term of more than 64 nodes or
 /// deeper than 16 is read for its form alone: its value is None. What stands behind the term isn't looked at.
-#[tactic(auto, unfolding(crate::specs::Terms::term))]
 pub fn term<'a>(
+    alloc: Global,
+    cursor: Cursor<'a>,
+    seen: Operands,
+) -> Result<Parsed<'a, Option<PatTerm>>, LineError>
+    ensures gives { Gives read_of result (terms.term (rest_of cursor.entry) seen) }
+    ensures formed { IfOk result (λ p. IsKeptTerm p.value) }
+{
+    let read = read_term(alloc, cursor, seen)?;
+    Ok(read)
+}
+
+/// The same.
+#[tactic(auto, unfolding(crate::specs::Terms::term))]
+fn read_term<'a>(
     alloc: Global,
     cursor: Cursor<'a>,
     seen: Operands,
@@ -44,11 +58,7 @@ pub fn term<'a>(
 
 /// So many parts more, or as many as there are until the term is whole.
 #[tactic(auto, using(crate::proofs::Steps::steps_next))]
-fn read_parts<'a>(
-    alloc: Global,
-    first: Reading<'a>,
-    count: usize,
-) -> Result<Reading<'a>, LineError>
+fn read_parts<'a>(alloc: Global, first: Reading<'a>, count: usize) -> Result<Reading<'a>, LineError>
     ensures { Gives reading_of result (terms.steps count (reading_of first.entry)) }
 {
     let mut reading = first;
@@ -138,8 +148,21 @@ fn tree_of(turn: Turn) -> Option<PatTerm>
 }
 
 /// The address in `M[t]`. Where it is beyond the limits of a term its value is None.
-#[tactic(auto, unfolding(crate::specs::Terms::address))]
 pub fn address<'a>(
+    alloc: Global,
+    cursor: Cursor<'a>,
+    seen: Operands,
+) -> Result<Parsed<'a, Option<PatTerm>>, LineError>
+    ensures gives { Gives read_of result (terms.address (rest_of cursor.entry) seen) }
+    ensures formed { IfOk result (λ p. IsKeptTerm p.value) }
+{
+    let read = read_address(alloc, cursor, seen)?;
+    Ok(read)
+}
+
+/// The same.
+#[tactic(auto, unfolding(crate::specs::Terms::address))]
+fn read_address<'a>(
     alloc: Global,
     cursor: Cursor<'a>,
     seen: Operands,

@@ -14,6 +14,7 @@ returns-in-Err c = let F : Result Reading LineFault → Type 0 = λ r. Fails c.i
 
 pub returns : goal.returns
 returns c = elim c.parts-test.branch [
-    then-parts-test+else-not-is_whole w ↦ sym c.parts.invariant ∙ steps_whole c.parts.left (reading_of c.parts.reading) (sym w.is_whole.ensures ∙ w.if-not-is_whole.false)
+  | then-parts-test+else-not-is_whole w ↦ sym c.parts.invariant ∙ steps_whole c.parts.left (reading_of c.parts.reading) (sym w.is_whole.ensures ∙ w.if-not-is_whole.false)
   | else-parts-test w ↦ let none : c.parts.left ≡ 0 = omega arith in
-      sym c.parts.invariant ∙ ap (λ k. steps k (reading_of c.parts.reading)) none ∙ steps_none (reading_of c.parts.reading) ]
+      sym c.parts.invariant ∙ ap (λ k. steps k (reading_of c.parts.reading)) none ∙ steps_none (reading_of c.parts.reading)
+]
