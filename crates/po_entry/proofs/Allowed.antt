@@ -1,17 +1,12 @@
 -- An entry that is read is one that a description may have.
-use Rattle.std.proofs.Common.{◌≡◌, ℕ, List, [], ◌∷◌, length, All, refl, sym, subst, arith, Result, Ok}
-use Rattle.std.specs.Prelude.{codes, IfOk}
+use Rattle.std.proofs.Common.{◌≡◌, ℕ, List, [], sym, subst, Ok}
+use Rattle.std.specs.Prelude.{codes}
 use Rattle.std.proofs.lemmas.List.{length-map}
 use Rattle.std.proofs.lemmas.List.Elements.{All-nil}
-use Rattle.po_term.specs.declared.term.Reg.TheVariants.{Fp}
-use Rattle.po_lines.specs.declared.fault.LineFault.{LineFault}
-use Rattle.po_lines.specs.declared.fault.LineError.{LineError}
-use Rattle.po_lines.specs.Faults.{◌>>=◌, Gives}
 use Rattle.po_lines.proofs.Results.{bind_ok, ok_is}
-use Rattle.po_model.specs.declared.machine.PatReg.TheVariants.{Fixed}
 use Rattle.po_model.specs.declared.machine.Entry.{Entry}
 use Rattle.po_model.specs.Patterns.{PatMove, SetsTo, Compares, Stores, Jumps, Branches, BranchesOn, Calls, Returns, pat_moves_of}
-use Rattle.po_model.specs.Entries.{IsPatMove, places_of, IsEntryOf, IsEntry}
+use Rattle.po_model.specs.Entries.{IsPatMove, places_of, IsEntry}
 use Rattle.po_pattern.specs.Rests.{skip_blanks}
 use Rattle.po_pattern.specs.Seen.{none_seen}
 use Rattle.po_entry.specs.Words.{keyword}

@@ -3,7 +3,7 @@ use Rattle.std.proofs.Common.{◌≡◌, ℕ, ◌+◌, ◌<◌, List, [], ◌∷
 use Rattle.po_lines.specs.declared.fault.LineFault.{LineFault}
 use Rattle.po_lines.specs.declared.fault.LineError.{LineError}
 use Rattle.po_lines.specs.declared.fault.LineError.TheVariants as error
-use Rattle.po_lines.specs.Faults.{◌>>=◌, Fails}
+use Rattle.po_lines.specs.Faults.{Fails}
 use Rattle.po_pattern.specs.declared.operands.Operands.{Operands}
 use Rattle.po_entry.specs.declared.begun.Begun.{Begun}
 use Rattle.po_entry.specs.Template.{template_step, template_from}

@@ -1,24 +1,19 @@
 -- What was read where a part without parts of its own stands: its places, its numbers, and that some byte was taken.
-use Rattle.std.proofs.Common.{◌≡◌, ◌≢◌, ℕ, ◌+◌, ◌-◌, ◌*◌, ◌^◌, ◌<◌, ◌≤◌, ◌==◌, ◌&&◌, Bool, true, false, nat_le, List, [], ◌∷◌, ◌++◌, length, take, drop, refl, sym, ap, ◌∙◌, subst, arith, zero, suc, Option, Some, None, Result, Ok, Err, ℤ, pos, negsuc, IsTrue, ◌⊎◌, inl, inr, leb-true, append_assoc, append-nil}
-use Rattle.std.specs.Prelude.{cond, int_le, codes}
-use Rattle.std.specs.List.{prefix_len}
+use Rattle.std.proofs.Common.{◌≡◌, ℕ, ◌-◌, ◌<◌, ◌≤◌, ◌==◌, ◌&&◌, true, false, nat_le, List, [], ◌∷◌, ◌++◌, length, take, refl, sym, ap, subst, arith, zero, suc, Option, Some, None, Ok, ℤ, pos, negsuc, inl, inr, leb-true}
+use Rattle.std.specs.Prelude.{int_le}
 use Rattle.std.proofs.lemmas.Bool.{and_parts}
 use Rattle.std.proofs.lemmas.List.{length-drop}
 use Rattle.po_text.specs.Number.{number_of}
-use Rattle.po_text.specs.declared.fault.Kind.{Kind}
-use Rattle.po_name.specs.Names.{is_digit, is_name_byte}
-use Rattle.po_lines.specs.declared.fault.LineFault.{LineFault}
-use Rattle.po_lines.specs.Faults.{◌>>=◌, fault}
+use Rattle.po_name.specs.Names.{is_digit}
 use Rattle.po_lines.specs.Words.{Placed}
 use Rattle.po_lines.specs.Leaves.{bounded, number_in, signed_number_in}
 use Rattle.po_lines.proofs.Results.{chosen, bind_ok, ok_is, not_ok}
 use Rattle.po_pattern.specs.declared.operands.Operands.{Operands}
 use Rattle.po_pattern.specs.declared.operands.OperandKind.{OperandKind}
-use Rattle.po_pattern.specs.declared.operands.OperandKind.TheVariants.{Register, Constant, Symbol, Label}
-use Rattle.po_pattern.specs.Rests.{Rest, Read, behind, skip_blanks, wrong, begins, mark}
-use Rattle.po_pattern.specs.Seen.{kind_of, with_operand, may_be, is_new}
+use Rattle.po_pattern.specs.Rests.{Rest, Read, skip_blanks, begins, mark}
+use Rattle.po_pattern.specs.Seen.{kind_of, with_operand, may_be}
 use Rattle.po_pattern.specs.Parts.{digit_behind, mark_of, operand_with, operand, number_with, number_at, number_length, number}
-use Rattle.po_model.specs.Entries.{Place, place, IsRange, HasRange, has_range}
+use Rattle.po_model.specs.Entries.{Place, place}
 use Rattle.po_entry.proofs.Told.{Tells, sort_of, told_more}
 
 -- what was read of this form, with its places behind those before it
@@ -41,9 +36,10 @@ begun byte (b ∷ bs) e = omega arith
 pub mark_shorter : (byte : ℕ) (r s : Rest) → mark byte r ≡ Ok s → length s.bytes < length r.bytes
 unfolding mark
 mark_shorter byte r s e = elim (chosen (begins byte r.bytes) _ _ _ e) [
-  inl (h, is) ↦ (let some : 0 < length r.bytes = begun byte r.bytes h in
-    subst (λ (t : Rest). length t.bytes < length r.bytes) (ok_is is) (simp length-drop (omega arith)))
-  | inr (h, is) ↦ absurd (not_ok is) ]
+  | inl (h, is) ↦ (let some : 0 < length r.bytes = begun byte r.bytes h in
+      subst (λ (t : Rest). length t.bytes < length r.bytes) (ok_is is) (simp length-drop (omega arith)))
+  | inr (h, is) ↦ absurd (not_ok is)
+]
 
 -- an operand
 
@@ -60,16 +56,19 @@ digit_found : (byte : ℕ) (bs : List ℕ) (k : ℕ) → digit_behind byte bs �
 digit_found byte [] k e = cc
 digit_found byte (b ∷ []) k e = cc
 digit_found byte (b ∷ d ∷ ds) k e = elim (chosen (b == byte) _ _ _ e) [
-  inl (h, is) ↦ elim (chosen (is_digit d) _ _ _ is) [
-    inl (g, at) ↦ (let same : d - 48 ≡ k = cc in (subst (λ (n : ℕ). n < 10) same (digit_below d g), omega arith))
-    | inr (g, at) ↦ cc ]
-  | inr (h, is) ↦ cc ]
+  | inl (h, is) ↦ elim (chosen (is_digit d) _ _ _ is) [
+    | inl (g, at) ↦ (let same : d - 48 ≡ k = cc in (subst (λ (n : ℕ). n < 10) same (digit_below d g), omega arith))
+    | inr (g, at) ↦ cc
+  ]
+  | inr (h, is) ↦ cc
+]
 
 operand_found : (o : OperandKind) (r : Rest) (seen : Operands) (x : Read ℕ) (k : Option ℕ) → digit_behind (mark_of o) r.bytes ≡ k → operand_with o r seen k ≡ Ok x → Took o r seen x
 operand_found o r seen x None h e = absurd (not_ok e)
 operand_found o r seen x (Some k) h e = let found = digit_found (mark_of o) r.bytes k h in elim (chosen (may_be o (kind_of seen k)) _ _ _ e) [
-  inl (m, is) ↦ subst (λ (y : Read ℕ). Took o r seen y) (ok_is is) (record { small = found.0; may = m; noted = refl; shorter = simp length-drop (omega (arith, found.1)) })
-  | inr (m, is) ↦ absurd (not_ok is) ]
+  | inl (m, is) ↦ subst (λ (y : Read ℕ). Took o r seen y) (ok_is is) (record { small = found.0; may = m; noted = refl; shorter = simp length-drop (omega (arith, found.1)) })
+  | inr (m, is) ↦ absurd (not_ok is)
+]
 
 pub operand_took : (o : OperandKind) (r : Rest) (seen : Operands) (x : Read ℕ) → operand o r seen ≡ Ok x → Took o r seen x
 unfolding operand
@@ -99,10 +98,11 @@ pub record TookNumber (r : Rest) (seen : Operands) (x : Read ℤ) : Type 0 where
 number_within : (low high : ℤ) (column : ℕ) (n : Option ℤ) (z : ℤ) → bounded low high column n ≡ Ok z → (n ≡ Some z) × (int_le low z ≡ true) × (int_le z high ≡ true)
 number_within low high column None z e = absurd (not_ok e)
 number_within low high column (Some n) z e = elim (chosen (int_le low n && int_le n high) _ _ _ e) [
-  inl (h, is) ↦ (let parts = and_parts (int_le low n) (int_le n high) h in
-    let same : n ≡ z = ok_is is in
-    (ap Some same, subst (λ (y : ℤ). int_le low y ≡ true) same parts.0, subst (λ (y : ℤ). int_le y high ≡ true) same parts.1))
-  | inr (h, is) ↦ absurd (not_ok is) ]
+  | inl (h, is) ↦ (let parts = and_parts (int_le low n) (int_le n high) h in
+      let same : n ≡ z = ok_is is in
+      (ap Some same, subst (λ (y : ℤ). int_le low y ≡ true) same parts.0, subst (λ (y : ℤ). int_le y high ≡ true) same parts.1))
+  | inr (h, is) ↦ absurd (not_ok is)
+]
 
 signed_within : (w : Placed) (z : ℤ) → signed_number_in w ≡ Ok z → (number_of w.bytes ≡ Some z) × (int_le (negsuc 2147483647) z ≡ true) × (int_le z (pos 2147483647) ≡ true)
 unfolding signed_number_in number_in

@@ -1,6 +1,6 @@
 -- What the list of an entry's transfers keeps, as each next one is taken: the form of instructions.
-use Rattle.std.proofs.Common.{◌≡◌, ℕ, ◌+◌, ◌<◌, ◌≤◌, ◌==◌, ◌&&◌, Bool, true, false, not, nat_lt, List, [], ◌∷◌, ◌++◌, length, map, All, AllPairs, get_or, refl, sym, ap, ◌∙◌, subst, arith, ltb-true, eq-eqb, zero-le}
-use Rattle.std.specs.List.{list_all, list_any}
+use Rattle.std.proofs.Common.{◌≡◌, ◌<◌, ◌≤◌, ◌&&◌, Bool, true, false, not, nat_lt, List, [], ◌∷◌, ◌++◌, length, All, AllPairs, refl, sym, ◌∙◌, subst, arith, ltb-true, eq-eqb, zero-le}
+use Rattle.std.specs.List.{list_all}
 use Rattle.std.proofs.lemmas.Bool.{and_parts}
 use Rattle.std.proofs.lemmas.List.{map-append, length-append, length-map}
 use Rattle.std.proofs.lemmas.List.Elements.{All-map, All-push, All-weaker, All-nil}

@@ -1,11 +1,8 @@
 -- What was read where a transfer stands.
-use Rattle.std.proofs.Common.{◌≡◌, ℕ, ◌<◌, ◌==◌, Bool, true, false, List, [], ◌∷◌, ◌++◌, length, refl, sym, ap, ◌∙◌, subst, arith, Option, Some, None, Result, Ok, Err, ◌⊎◌, inl, inr, append-nil, append_assoc}
-use Rattle.std.specs.Prelude.{cond, codes, ⊤}
+use Rattle.std.proofs.Common.{◌≡◌, ℕ, ◌<◌, List, [], ◌++◌, refl, sym, ap, ◌∙◌, subst, Option, Some, None, Ok, inl, inr, append_assoc}
+use Rattle.std.specs.Prelude.{codes, ⊤}
 use Rattle.std.specs.Option.{option_map}
 use Rattle.po_word.specs.declared.operator.Rel.{Rel}
-use Rattle.po_lines.specs.declared.fault.LineFault.{LineFault}
-use Rattle.po_lines.specs.Faults.{◌>>=◌}
-use Rattle.po_lines.specs.Leaves.{same}
 use Rattle.po_lines.proofs.Results.{chosen, bind_ok, ok_is, not_ok}
 use Rattle.po_model.specs.declared.machine.PatReg.{PatReg}
 use Rattle.po_model.specs.declared.machine.PatTerm.{PatTerm}
@@ -14,10 +11,10 @@ use Rattle.po_model.specs.declared.machine.PatCond.TheVariants as condition
 use Rattle.po_model.specs.declared.machine.PatTransfer.{PatTransfer}
 use Rattle.po_model.specs.declared.machine.PatTransfer.TheVariants as transfer
 use Rattle.po_model.specs.Patterns.{PatTree, PatMove, SetsTo, Compares, Stores, Jumps, Branches, BranchesOn, Calls, Returns, pattern_of, pat_move_of}
-use Rattle.po_model.specs.Entries.{Place, place, OfLabel, OfSym, IsPatReg, IsPatTree, reg_places, tree_places, move_places}
+use Rattle.po_model.specs.Entries.{Place, IsPatReg, IsPatTree, reg_places, tree_places, move_places}
 use Rattle.po_pattern.specs.declared.operands.Operands.{Operands}
-use Rattle.po_pattern.specs.declared.operands.OperandKind.TheVariants.{Register, Constant, Symbol, Label}
-use Rattle.po_pattern.specs.Rests.{Rest, Read, skip_blanks}
+use Rattle.po_pattern.specs.declared.operands.OperandKind.TheVariants.{Symbol, Label}
+use Rattle.po_pattern.specs.Rests.{Rest, Read}
 use Rattle.po_pattern.specs.Parts as parts
 use Rattle.po_pattern.specs.Terms as terms
 use Rattle.po_entry.specs.declared.pair.Pair.{Pair}
@@ -26,7 +23,7 @@ use Rattle.po_entry.specs.Transfers.{register, term, address, label, symbol, pai
 use Rattle.po_entry.proofs.Told.{Tells}
 use Rattle.po_entry.proofs.Leaves.{IsDigitAt, operand_came}
 use Rattle.po_entry.proofs.Parts.{IsRegAt, register_came, none_more}
-use Rattle.po_entry.proofs.Terms.{IsTreeAt, TermHas, term_came, address_came}
+use Rattle.po_entry.proofs.Terms.{TermHas, term_came, address_came}
 
 -- what was read of this form, with its places behind those before it
 pub record Found {T : Type 0} (Has : T → List Place → Type 0) (ps : List Place) (value : T) (seen : Operands) : Type 0 where
@@ -37,8 +34,9 @@ pub record Found {T : Type 0} (Has : T → List Place → Type 0) (ps : List Pla
 ended_same : {T : Type 0} (x y : Read T) → ended x ≡ Ok y → (x.value ≡ y.value) × (x.seen ≡ y.seen)
 unfolding ended
 ended_same {T = T} x y e = elim (chosen (ends_word x.rest.bytes) _ _ _ e) [
-  inl (h, is) ↦ (ap (λ (z : Read T). z.value) (ok_is is), ap (λ (z : Read T). z.seen) (ok_is is))
-  | inr (h, is) ↦ absurd (not_ok is) ]
+  | inl (h, is) ↦ (ap (λ (z : Read T). z.value) (ok_is is), ap (λ (z : Read T). z.seen) (ok_is is))
+  | inr (h, is) ↦ absurd (not_ok is)
+]
 
 found_ended : {T : Type 0} (Has : T → List Place → Type 0) (ps : List Place) (x y : Read T) → ended x ≡ Ok y → Found Has ps x.value x.seen → Found Has ps y.value y.seen
 found_ended {T = T} Has ps x y e h = let is = ended_same x y e in
@@ -235,18 +233,21 @@ unfolding if_in
 if_found r seen x ps e told =
     let p = bind_ok (keyword (codes "if") r) _ x e in
     elim (chosen (says (codes "cc") p.0) _ _ _ p.2) [
-  inl (h, is) ↦ branch_found (Some condition.Cc) (behind_word p.0) seen x ps is (record { places = []; has = refl; told = none_more seen ps told })
-  | inr (h, is) ↦ (let q = bind_ok (compared p.0 seen) _ x is in
-    branch_found (option_map (λ p. condition.Two p.left p.right) q.0.value) q.0.rest q.0.seen x ps q.2
-    (found_as PairHas CondHas ps q.0.value (option_map (λ p. condition.Two p.left p.right) q.0.value) q.0.seen (two_has q.0.value) (compared_found p.0 seen q.0 ps q.1 told))) ]
+      | inl (h, is) ↦ branch_found (Some condition.Cc) (behind_word p.0) seen x ps is (record { places = []; has = refl; told = none_more seen ps told })
+      | inr (h, is) ↦ (let q = bind_ok (compared p.0 seen) _ x is in
+          branch_found (option_map (λ p. condition.Two p.left p.right) q.0.value) q.0.rest q.0.seen x ps q.2
+          (found_as PairHas CondHas ps q.0.value (option_map (λ p. condition.Two p.left p.right) q.0.value) q.0.seen (two_has q.0.value) (compared_found p.0 seen q.0 ps q.1 told)))
+    ]
 
 setting_found : (r : Rest) (seen : Operands) (x : Read (Option PatTransfer)) (ps : List Place) → setting_in r seen ≡ Ok x → Tells seen ps → Found MoveHas ps x.value x.seen
 unfolding setting_in
 setting_found r seen x ps e told = elim (chosen (says (codes "cc") r) _ _ _ e) [
-  inl (h, is) ↦ cc_found r seen x ps is told
+  | inl (h, is) ↦ cc_found r seen x ps is told
   | inr (h, is) ↦ elim (chosen (begins_memory r) _ _ _ is) [
-    inl (g, at) ↦ store_found r seen x ps at told
-    | inr (g, at) ↦ set_found r seen x ps at told ] ]
+    | inl (g, at) ↦ store_found r seen x ps at told
+    | inr (g, at) ↦ set_found r seen x ps at told
+  ]
+]
 
 goto_has : (k : ℕ) (qs : List Place) → IsDigitAt Label k qs → MoveHas (Some (transfer.Goto k)) qs
 goto_has k qs h = record { is = h.is; fine = h.small }
@@ -257,16 +258,20 @@ call_has k qs h = record { is = h.is; fine = h.small }
 pub transfer_found : (r : Rest) (seen : Operands) (x : Read (Option PatTransfer)) (ps : List Place) → transfer_in r seen ≡ Ok x → Tells seen ps → Found MoveHas ps x.value x.seen
 unfolding transfer_in
 transfer_found r seen x ps e told = elim (chosen (says (codes "goto") r) _ _ _ e) [
-  inl (h, is) ↦ (let p = bind_ok (goto_in r seen) _ x is in
-    subst (λ (y : Read (Option PatTransfer)). Found MoveHas ps y.value y.seen) (ok_is p.2)
-    (found_as (IsDigitAt Label) MoveHas ps p.0.value (Some (transfer.Goto p.0.value)) p.0.seen (goto_has p.0.value) (goto_found r seen p.0 ps p.1 told)))
-  | inr (h, is) ↦ elim (chosen (says (codes "call") r) _ _ _ is) [
-    inl (g, at) ↦ (let p = bind_ok (call_in r seen) _ x at in
+  | inl (h, is) ↦ (let p = bind_ok (goto_in r seen) _ x is in
       subst (λ (y : Read (Option PatTransfer)). Found MoveHas ps y.value y.seen) (ok_is p.2)
-      (found_as (IsDigitAt Symbol) MoveHas ps p.0.value (Some (transfer.Call p.0.value)) p.0.seen (call_has p.0.value) (call_found r seen p.0 ps p.1 told)))
+      (found_as (IsDigitAt Label) MoveHas ps p.0.value (Some (transfer.Goto p.0.value)) p.0.seen (goto_has p.0.value) (goto_found r seen p.0 ps p.1 told)))
+  | inr (h, is) ↦ elim (chosen (says (codes "call") r) _ _ _ is) [
+    | inl (g, at) ↦ (let p = bind_ok (call_in r seen) _ x at in
+        subst (λ (y : Read (Option PatTransfer)). Found MoveHas ps y.value y.seen) (ok_is p.2)
+        (found_as (IsDigitAt Symbol) MoveHas ps p.0.value (Some (transfer.Call p.0.value)) p.0.seen (call_has p.0.value) (call_found r seen p.0 ps p.1 told)))
     | inr (g, at) ↦ elim (chosen (says (codes "ret") r) _ _ _ at) [
-      inl (f, to) ↦ subst (λ (y : Read (Option PatTransfer)). Found MoveHas ps y.value y.seen) (ok_is to)
-        (record { places = []; has = record { is = refl; fine = tt }; told = none_more seen ps told })
+      | inl (f, to) ↦ subst (λ (y : Read (Option PatTransfer)). Found MoveHas ps y.value y.seen) (ok_is to)
+          (record { places = []; has = record { is = refl; fine = tt }; told = none_more seen ps told })
       | inr (f, to) ↦ elim (chosen (says (codes "if") r) _ _ _ to) [
-        inl (d, by) ↦ if_found r seen x ps by told
-        | inr (d, by) ↦ setting_found r seen x ps by told ] ] ] ]
+        | inl (d, by) ↦ if_found r seen x ps by told
+        | inr (d, by) ↦ setting_found r seen x ps by told
+      ]
+    ]
+  ]
+]

@@ -1,5 +1,5 @@
 -- What was read where a range, a constant or a register stands.
-use Rattle.std.proofs.Common.{◌≡◌, ℕ, ◌+◌, ◌*◌, ◌^◌, ◌<◌, ◌≤◌, ◌==◌, ◌&&◌, Bool, true, false, List, [], ◌∷◌, ◌++◌, length, take, drop, refl, sym, ap, ◌∙◌, subst, arith, zero, suc, Option, Some, None, Result, Ok, Err, ℤ, pos, negsuc, IsTrue, ◌⊎◌, inl, inr, append-nil, leb-true}
+use Rattle.std.proofs.Common.{◌≡◌, ℕ, ◌^◌, ◌<◌, ◌≤◌, Bool, true, false, List, [], ◌∷◌, ◌++◌, length, take, refl, sym, ◌∙◌, subst, arith, zero, suc, Option, Some, None, Ok, Err, ℤ, pos, negsuc, inl, inr, append-nil, leb-true}
 use Rattle.std.specs.Prelude.{cond, int_le, codes, ⊤}
 use Rattle.std.specs.List.{prefix_len}
 use Rattle.std.proofs.lemmas.List.{length-drop}
@@ -7,27 +7,24 @@ use Rattle.po_word.specs.Words.{word_of}
 use Rattle.po_text.specs.declared.fault.Kind.TheVariants as kind
 use Rattle.po_name.specs.Names.{is_name_byte}
 use Rattle.po_term.specs.declared.term.Reg.{Reg}
-use Rattle.po_term.specs.declared.term.Reg.TheVariants.{Virt, Fp, Rv, Arg}
-use Rattle.po_term.specs.Tree.{Const, Leaf, tree_size, tree_depth}
-use Rattle.po_lines.specs.declared.fault.LineFault.{LineFault}
-use Rattle.po_lines.specs.Faults.{◌>>=◌, fault}
+use Rattle.po_term.specs.declared.term.Reg.TheVariants.{Fp, Rv, Arg}
+use Rattle.po_term.specs.Tree.{tree_size, tree_depth}
+use Rattle.po_lines.specs.Faults.{fault}
 use Rattle.po_lines.specs.Leaves.{same}
 use Rattle.po_lines.proofs.Results.{chosen, bind_ok, ok_is, not_ok}
 use Rattle.po_pattern.specs.declared.operands.Operands.{Operands}
-use Rattle.po_pattern.specs.declared.operands.OperandKind.{OperandKind}
-use Rattle.po_pattern.specs.declared.operands.OperandKind.TheVariants.{Register, Constant, Symbol, Label}
-use Rattle.po_pattern.specs.Rests.{Rest, Read, behind, skip_blanks, wrong, begins, mark}
-use Rattle.po_pattern.specs.Seen.{kind_of, with_operand, may_be, is_new}
+use Rattle.po_pattern.specs.declared.operands.OperandKind.TheVariants.{Register, Constant, Symbol}
+use Rattle.po_pattern.specs.Rests.{Rest, Read, skip_blanks, begins, mark}
+use Rattle.po_pattern.specs.Seen.{kind_of, is_new}
 use Rattle.po_pattern.specs.Parts.{operand, number, in_order, range, range_behind, any_register, constant, symbol_address, numeral, name_here, fixed_of, fixed_with, fixed_register, register}
 use Rattle.po_model.specs.declared.machine.PatReg.{PatReg}
-use Rattle.po_model.specs.declared.machine.PatReg.TheVariants.{Any, Fixed}
 use Rattle.po_model.specs.declared.machine.PatTerm.{PatTerm}
 use Rattle.po_model.specs.declared.machine.PatTerm.TheVariants as pat
-use Rattle.po_model.specs.Patterns.{PatTree, pattern_of, Exactly, Operand, InPatReg, AtSymbol}
-use Rattle.po_model.specs.Entries.{Place, place, OfReg, OfNum, OfSym, IsRange, HasRange, has_range, IsFixed, IsPatReg, reg_places, tree_places, IsPatTree, HasPatNumbers}
+use Rattle.po_model.specs.Patterns.{PatTree, pattern_of}
+use Rattle.po_model.specs.Entries.{Place, place, OfNum, HasRange, has_range, IsFixed, IsPatReg, reg_places, tree_places, HasPatNumbers}
 use Rattle.po_entry.proofs.Layers.{reg_tree, num_tree, const_tree, addr_tree}
-use Rattle.po_entry.proofs.Told.{Tells, sort_of, told_more}
-use Rattle.po_entry.proofs.Leaves.{Came, not_longer, mark_shorter, Took, operand_took, operand_came, TookNumber, number_took}
+use Rattle.po_entry.proofs.Told.{Tells, told_more}
+use Rattle.po_entry.proofs.Leaves.{Came, not_longer, mark_shorter, operand_took, operand_came, number_took}
 
 -- a range
 
@@ -68,8 +65,9 @@ wider new r seen x h = record { fine = h.fine; new = h.new; noted = h.noted; sho
 pub range_behind_took : (column : ℕ) (new : Bool) (r : Rest) (seen : Operands) (x : Read (Option (ℤ × ℤ))) → range_behind column new r seen ≡ Ok x → TookRange new r seen x
 unfolding range_behind
 range_behind_took column new r seen x e = elim (chosen (begins 91 (skip_blanks r).bytes) _ _ _ e) [
-  inl (h, is) ↦ wider new r seen x (range_if_new column new (skip_blanks r) seen x is)
-  | inr (h, is) ↦ subst (λ (y : Read (Option (ℤ × ℤ))). TookRange new r seen y) (ok_is is) (record { fine = tt; new = λ g. absurd (cc); noted = refl; short = omega arith }) ]
+  | inl (h, is) ↦ wider new r seen x (range_if_new column new (skip_blanks r) seen x is)
+  | inr (h, is) ↦ subst (λ (y : Read (Option (ℤ × ℤ))). TookRange new r seen y) (ok_is is) (record { fine = tt; new = λ g. absurd (cc); noted = refl; short = omega arith })
+]
 
 -- a term without terms of its own
 
@@ -185,8 +183,9 @@ fixed_came r seen x ps e told = fixed_found r seen x ps (fixed_of (name_here r))
 pub register_came : (r : Rest) (seen : Operands) (x : Read PatReg) (ps : List Place) → register r seen ≡ Ok x → Tells seen ps → Came IsRegAt ps r x
 unfolding register
 register_came r seen x ps e told = elim (chosen (begins 37 r.bytes) _ _ _ e) [
-  inl (h, is) ↦ any_came r seen x ps is told
-  | inr (h, is) ↦ fixed_came r seen x ps is told ]
+  | inl (h, is) ↦ any_came r seen x ps is told
+  | inr (h, is) ↦ fixed_came r seen x ps is told
+]
 
 -- a register as a term
 pub register_leaf : (r : Rest) (x : Read PatReg) (ps : List Place) → Came IsRegAt ps r x → Came IsLeafAt ps r (record { value = pat.Reg x.value; rest = x.rest; seen = x.seen })

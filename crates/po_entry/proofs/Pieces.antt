@@ -1,14 +1,11 @@
 -- The pieces that a template is read as are those of the pattern's operands.
-use Rattle.std.proofs.Common.{◌≡◌, ℕ, ◌+◌, ◌-◌, ◌<◌, ◌≤◌, ◌==◌, ◌&&◌, ◌||◌, Bool, true, false, nat_le, List, [], ◌∷◌, ◌++◌, length, All, refl, sym, ap, ◌∙◌, subst, arith, Option, Some, None, Result, Ok, Err, ◌⊎◌, inl, inr, eqb-true, leb-true}
-use Rattle.std.specs.Prelude.{cond, ⊤}
+use Rattle.std.proofs.Common.{◌≡◌, ℕ, ◌+◌, ◌-◌, ◌≤◌, ◌==◌, ◌&&◌, ◌||◌, Bool, true, false, nat_le, List, [], ◌∷◌, All, refl, sym, ap, subst, arith, Option, Some, None, Ok, ◌⊎◌, inl, inr, eqb-true, leb-true}
+use Rattle.std.specs.Prelude.{⊤}
 use Rattle.std.proofs.lemmas.Bool.{and_parts}
 use Rattle.std.proofs.lemmas.List.Elements.{All-push, All-nil}
 use Rattle.po_name.specs.Names.{is_digit}
-use Rattle.po_lines.specs.declared.fault.LineFault.{LineFault}
-use Rattle.po_lines.specs.Faults.{◌>>=◌, fault}
 use Rattle.po_lines.proofs.Results.{chosen, bind_ok, ok_is, not_ok}
 use Rattle.po_model.specs.declared.machine.Piece.{Piece}
-use Rattle.po_model.specs.declared.machine.Piece.TheVariants as piece
 use Rattle.po_model.specs.Entries.{Place, IsAmong, IsPieceOf}
 use Rattle.po_pattern.specs.declared.operands.Operands.{Operands}
 use Rattle.po_pattern.specs.declared.operands.OperandKind.{OperandKind}
@@ -27,12 +24,15 @@ or_cases false y e = inr e
 
 printed_mark : (b : ℕ) → is_mark b ≡ true → (32 ≤ b) × (b ≤ 126)
 printed_mark b e = elim (or_cases ((b == 37 || b == 35) || b == 64) (b == 38) e) [
-  inl h ↦ elim (or_cases (b == 37 || b == 35) (b == 64) h) [
-    inl g ↦ elim (or_cases (b == 37) (b == 35) g) [
-      inl f ↦ (let is : b ≡ 37 = eqb-true b 37 f in (omega (arith, is), omega (arith, is)))
-      | inr f ↦ (let is : b ≡ 35 = eqb-true b 35 f in (omega (arith, is), omega (arith, is))) ]
-    | inr g ↦ (let is : b ≡ 64 = eqb-true b 64 g in (omega (arith, is), omega (arith, is))) ]
-  | inr h ↦ (let is : b ≡ 38 = eqb-true b 38 h in (omega (arith, is), omega (arith, is))) ]
+  | inl h ↦ elim (or_cases (b == 37 || b == 35) (b == 64) h) [
+    | inl g ↦ elim (or_cases (b == 37) (b == 35) g) [
+      | inl f ↦ (let is : b ≡ 37 = eqb-true b 37 f in (omega (arith, is), omega (arith, is)))
+      | inr f ↦ (let is : b ≡ 35 = eqb-true b 35 f in (omega (arith, is), omega (arith, is)))
+    ]
+    | inr g ↦ (let is : b ≡ 64 = eqb-true b 64 g in (omega (arith, is), omega (arith, is)))
+  ]
+  | inr h ↦ (let is : b ≡ 38 = eqb-true b 38 h in (omega (arith, is), omega (arith, is)))
+]
 
 seen_is : (o : OperandKind) (known : Option OperandKind) → is_seen o known ≡ true → known ≡ Some o
 seen_is o None e = absurd (cc)
@@ -55,18 +55,21 @@ pub record Taken (ps : List Place) (s : Begun) : Type 0 where
 
 marked_fine : (ps : List Place) (seen : Operands) (mark : Mark) (byte : ℕ) (p : Piece) → marked seen mark byte ≡ Ok p → Tells seen ps → is_mark mark.byte ≡ true → IsPieceOf ps p
 marked_fine ps seen mark byte p e told m = elim (chosen (byte == mark.byte) _ _ _ e) [
-  inl (h, is) ↦ (let same : byte ≡ mark.byte = eqb-true _ _ h in
-    subst (λ (q : Piece). IsPieceOf ps q) (ok_is is) (printed_mark byte (subst (λ (b : ℕ). is_mark b ≡ true) (sym same) m)))
+  | inl (h, is) ↦ (let same : byte ≡ mark.byte = eqb-true _ _ h in
+      subst (λ (q : Piece). IsPieceOf ps q) (ok_is is) (printed_mark byte (subst (λ (b : ℕ). is_mark b ≡ true) (sym same) m)))
   | inr (h, is) ↦ elim (chosen (is_digit byte && is_seen (kind_by mark.byte) (kind_of seen (byte - 48))) _ _ _ is) [
-    inl (g, at) ↦ (let parts = and_parts (is_digit byte) (is_seen (kind_by mark.byte) (kind_of seen (byte - 48))) g in
-      subst (λ (q : Piece). IsPieceOf ps q) (ok_is at) (piece_of ps (kind_by mark.byte) (byte - 48) (told.told (byte - 48) (kind_by mark.byte) (seen_is (kind_by mark.byte) (kind_of seen (byte - 48)) parts.1))))
-    | inr (g, at) ↦ absurd (not_ok at) ] ]
+    | inl (g, at) ↦ (let parts = and_parts (is_digit byte) (is_seen (kind_by mark.byte) (kind_of seen (byte - 48))) g in
+        subst (λ (q : Piece). IsPieceOf ps q) (ok_is at) (piece_of ps (kind_by mark.byte) (byte - 48) (told.told (byte - 48) (kind_by mark.byte) (seen_is (kind_by mark.byte) (kind_of seen (byte - 48)) parts.1))))
+    | inr (g, at) ↦ absurd (not_ok at)
+  ]
+]
 
 plain_fine : (ps : List Place) (column byte : ℕ) (p : Piece) → plain column byte ≡ Ok p → IsPieceOf ps p
 plain_fine ps column byte p e = elim (chosen (nat_le 32 byte && nat_le byte 126) _ _ _ e) [
-  inl (h, is) ↦ (let parts = and_parts (nat_le 32 byte) (nat_le byte 126) h in
-    subst (λ (q : Piece). IsPieceOf ps q) (ok_is is) (leb-true 32 byte parts.0, leb-true byte 126 parts.1))
-  | inr (h, is) ↦ absurd (not_ok is) ]
+  | inl (h, is) ↦ (let parts = and_parts (nat_le 32 byte) (nat_le byte 126) h in
+      subst (λ (q : Piece). IsPieceOf ps q) (ok_is is) (leb-true 32 byte parts.0, leb-true byte 126 parts.1))
+  | inr (h, is) ↦ absurd (not_ok is)
+]
 
 pushed : (ps : List Place) (pieces : List Piece) (p : Piece) → All (IsPieceOf ps) pieces → IsPieceOf ps p → Taken ps (with_piece pieces p)
 pushed ps pieces p h g = record { pieces = All-push (IsPieceOf ps) pieces p h g; waiting = tt }
@@ -74,9 +77,10 @@ pushed ps pieces p h g = record { pieces = All-push (IsPieceOf ps) pieces p h g;
 step_taken : (ps : List Place) (seen : Operands) (column byte : ℕ) (pieces : List Piece) (waiting : Option Mark) (t : Begun) → step_with seen column pieces waiting byte ≡ Ok t → Tells seen ps
     → All (IsPieceOf ps) pieces → IsWaiting waiting → Taken ps t
 step_taken ps seen column byte pieces None t e told h w = elim (chosen (is_mark byte) _ _ _ e) [
-  inl (g, is) ↦ subst (λ (u : Begun). Taken ps u) (ok_is is) (record { pieces = h; waiting = g })
+  | inl (g, is) ↦ subst (λ (u : Begun). Taken ps u) (ok_is is) (record { pieces = h; waiting = g })
   | inr (g, is) ↦ (let p = bind_ok (plain column byte) _ t is in
-    subst (λ (u : Begun). Taken ps u) (ok_is p.2) (pushed ps pieces p.0 h (plain_fine ps column byte p.0 p.1))) ]
+      subst (λ (u : Begun). Taken ps u) (ok_is p.2) (pushed ps pieces p.0 h (plain_fine ps column byte p.0 p.1)))
+]
 step_taken ps seen column byte pieces (Some mark) t e told h w =
     let p = bind_ok (marked seen mark byte) _ t e in
     subst (λ (u : Begun). Taken ps u) (ok_is p.2) (pushed ps pieces p.0 h (marked_fine ps seen mark byte p.0 p.1 told w))

@@ -1,6 +1,6 @@
 -- What was read where a whole term stands. The parts that are open have the places that were read in them, from the
 -- outermost on; a part beyond the limits has some.
-use Rattle.std.proofs.Common.{◌≡◌, ℕ, ◌+◌, ◌*◌, ◌<◌, ◌≤◌, ◌==◌, ◌&&◌, Bool, true, false, nat_le, max, List, [], ◌∷◌, ◌++◌, length, take, drop, refl, sym, ap, ◌∙◌, subst, arith, zero, suc, Option, Some, None, Result, Ok, Err, ◌⊎◌, inl, inr, append-nil, append_assoc, leb-true}
+use Rattle.std.proofs.Common.{◌≡◌, ℕ, ◌+◌, ◌<◌, ◌≤◌, ◌==◌, ◌&&◌, true, false, nat_le, max, List, [], ◌∷◌, ◌++◌, length, refl, sym, ap, ◌∙◌, subst, arith, zero, suc, Option, Some, None, Ok, ◌⊎◌, inl, inr, append_assoc, leb-true}
 use Rattle.std.specs.Prelude.{cond, codes, ⊤}
 use Rattle.std.specs.List.{prefix_len}
 use Rattle.std.specs.Option.{option_map}
@@ -11,9 +11,7 @@ use Rattle.po_word.specs.declared.operator.Un.TheVariants.{Neg, Not}
 use Rattle.po_word.specs.declared.operator.Bin.{Bin}
 use Rattle.po_word.specs.declared.operator.Bin.TheVariants.{Add, Sub, Mul, And, Or, Xor, Shl, Sar, Shr}
 use Rattle.po_name.specs.Names.{is_name_byte}
-use Rattle.po_term.specs.Tree.{Tree, Const, Leaf, Read as Memory, Unary, Binary, tree_size, tree_depth}
-use Rattle.po_lines.specs.declared.fault.LineFault.{LineFault}
-use Rattle.po_lines.specs.Faults.{◌>>=◌, fault}
+use Rattle.po_term.specs.Tree.{Read as Memory, Unary, Binary, tree_size, tree_depth}
 use Rattle.po_lines.specs.Leaves.{same}
 use Rattle.po_lines.proofs.Results.{chosen, bind_ok, ok_is, not_ok}
 use Rattle.po_pattern.specs.declared.operands.Operands.{Operands}
@@ -22,9 +20,9 @@ use Rattle.po_pattern.specs.declared.part.Frame.{Frame}
 use Rattle.po_pattern.specs.declared.part.Frame.TheVariants as frame
 use Rattle.po_pattern.specs.declared.part.Turn.{Turn}
 use Rattle.po_pattern.specs.declared.part.Turn.TheVariants.{Opens, Whole}
-use Rattle.po_pattern.specs.Rests.{Rest, Read, behind, skip_blanks, wrong, begins, mark}
-use Rattle.po_pattern.specs.Parts.{any_register, constant, symbol_address, numeral, fixed_register, name_here}
-use Rattle.po_pattern.specs.Terms.{kept, memory_part, unary_part, joined, binary_part, leaf, marked_leaf, opening, bracket, named_with, named, begins_leaf, wanted_with, wanted, operator_of, operator_length, operator_with, operator, closed, behind_whole, Reading, none_open, whole_with, is_whole, step_with, step, steps, whole_of, term, address}
+use Rattle.po_pattern.specs.Rests.{Rest, Read, behind, skip_blanks, mark}
+use Rattle.po_pattern.specs.Parts.{any_register, fixed_register, name_here}
+use Rattle.po_pattern.specs.Terms.{kept, memory_part, unary_part, binary_part, leaf, marked_leaf, opening, bracket, named_with, named, begins_leaf, wanted_with, wanted, operator_of, operator_length, operator_with, operator, closed, behind_whole, Reading, whole_with, is_whole, step_with, step, steps, whole_of, term, address}
 use Rattle.po_model.specs.declared.machine.PatTerm.{PatTerm}
 use Rattle.po_model.specs.declared.machine.PatTerm.TheVariants as pat
 use Rattle.po_model.specs.Patterns.{PatTree, pattern_of}
@@ -32,7 +30,7 @@ use Rattle.po_model.specs.Entries.{Place, tree_places, IsPatTree, HasPatNumbers}
 use Rattle.po_entry.proofs.Told.{Tells}
 use Rattle.po_entry.proofs.Leaves.{Came, not_longer, mark_shorter}
 use Rattle.po_entry.proofs.Layers.{mem_tree, un_tree, bin_tree}
-use Rattle.po_entry.proofs.Parts.{IsLeafAt, IsLeafTree, constant_came, symbol_came, numeral_came, any_leaf, fixed_came, register_leaf, none_more}
+use Rattle.po_entry.proofs.Parts.{IsLeafAt, constant_came, symbol_came, numeral_came, any_leaf, fixed_came, register_leaf, none_more}
 
 -- a term within the limits, and its places
 pub record IsTreeAt (t : PatTree) (qs : List Place) : Type 0 where
@@ -66,15 +64,16 @@ StackHas (f ∷ fs) qs = (cs : List Place) × (bs : List Place) × StackHas fs c
 
 kept_has : (term : PatTerm) (u : PatTree) (size depth : ℕ) (qs : List Place) → pattern_of term ≡ u → qs ≡ tree_places u → size ≡ tree_size u → depth ≡ tree_depth u → HasPatNumbers u → PartHas (kept term size depth) qs
 kept_has term u size depth qs e is s d numbers = elim (nat_le size 64 && nat_le depth 16) as (λ b. (nat_le size 64 && nat_le depth 16) ≡ b → PartHas (cond b (Some (record { term = term; size = size; depth = depth })) None) qs) [
-  true ↦ (λ h. let parts = and_parts (nat_le size 64) (nat_le depth 16) h in
-    let few : size ≤ 64 = leb-true _ _ parts.0 in
-    let flat : depth ≤ 16 = leb-true _ _ parts.1 in
-    record {
-      size = s ∙ ap tree_size (sym e);
-      depth = d ∙ ap tree_depth (sym e);
-      tree = subst (λ (v : PatTree). IsTreeAt v qs) (sym e) (record { is = is; fine = record { size = omega (arith, s, few); depth = omega (arith, d, flat); numbers = numbers } });
-    })
-  | false ↦ (λ h. tt) ] refl
+  | true ↦ (λ h. let parts = and_parts (nat_le size 64) (nat_le depth 16) h in
+      let few : size ≤ 64 = leb-true _ _ parts.0 in
+      let flat : depth ≤ 16 = leb-true _ _ parts.1 in
+      record {
+        size = s ∙ ap tree_size (sym e);
+        depth = d ∙ ap tree_depth (sym e);
+        tree = subst (λ (v : PatTree). IsTreeAt v qs) (sym e) (record { is = is; fine = record { size = omega (arith, s, few); depth = omega (arith, d, flat); numbers = numbers } });
+      })
+  | false ↦ (λ h. tt)
+] refl
 
 memory_has : (part : Option Part) (qs : List Place) → PartHas part qs → PartHas (memory_part part) qs
 memory_has None qs h = tt
@@ -113,22 +112,28 @@ leaf_turn r x ps came = record {
 marked_came : (byte : ℕ) (r : Rest) (seen : Operands) (x : Read PatTerm) (ps : List Place) → marked_leaf byte r seen ≡ Ok x → Tells seen ps → Came IsLeafAt ps r x
 unfolding marked_leaf
 marked_came byte r seen x ps e told = elim (chosen (byte == 37) _ _ _ e) [
-  inl (h, is) ↦ (let p = bind_ok (any_register r seen) _ x is in
-    subst (λ (y : Read PatTerm). Came IsLeafAt ps r y) (ok_is p.2) (any_leaf r seen p.0 ps p.1 told))
+  | inl (h, is) ↦ (let p = bind_ok (any_register r seen) _ x is in
+      subst (λ (y : Read PatTerm). Came IsLeafAt ps r y) (ok_is p.2) (any_leaf r seen p.0 ps p.1 told))
   | inr (h, is) ↦ elim (chosen (byte == 35) _ _ _ is) [
-    inl (g, at) ↦ constant_came r seen x ps at told
+    | inl (g, at) ↦ constant_came r seen x ps at told
     | inr (g, at) ↦ elim (chosen (byte == 38) _ _ _ at) [
-      inl (f, to) ↦ symbol_came r seen x ps to told
-      | inr (f, to) ↦ numeral_came r seen x ps to told ] ] ]
+      | inl (f, to) ↦ symbol_came r seen x ps to told
+      | inr (f, to) ↦ numeral_came r seen x ps to told
+    ]
+  ]
+]
 
 opened_empty : (name : List ℕ) (f : Frame) → opening name ≡ Some f → FrameHas f []
 opened_empty name f e = elim (chosen (same name (codes "M")) _ _ _ e) [
-  inl (h, is) ↦ (let here : frame.Memory ≡ f = cc in subst (λ (g : Frame). FrameHas g []) here refl)
+  | inl (h, is) ↦ (let here : frame.Memory ≡ f = cc in subst (λ (g : Frame). FrameHas g []) here refl)
   | inr (h, is) ↦ elim (chosen (same name (codes "neg")) _ _ _ is) [
-    inl (g, at) ↦ (let here : frame.Unary Neg ≡ f = cc in subst (λ (g : Frame). FrameHas g []) here refl)
+    | inl (g, at) ↦ (let here : frame.Unary Neg ≡ f = cc in subst (λ (g : Frame). FrameHas g []) here refl)
     | inr (g, at) ↦ elim (chosen (same name (codes "not")) _ _ _ at) [
-      inl (k, to) ↦ (let here : frame.Unary Not ≡ f = cc in subst (λ (g : Frame). FrameHas g []) here refl)
-      | inr (k, to) ↦ absurd (cc) ] ] ]
+      | inl (k, to) ↦ (let here : frame.Unary Not ≡ f = cc in subst (λ (g : Frame). FrameHas g []) here refl)
+      | inr (k, to) ↦ absurd (cc)
+    ]
+  ]
+]
 
 named_came : (r : Rest) (seen : Operands) (x : Read Turn) (ps : List Place) (found : Option Frame) → opening (name_here r) ≡ found → named_with r seen found ≡ Ok x → Tells seen ps → Came TurnHas ps r x
 named_came r seen x ps None h e told =
@@ -152,11 +157,13 @@ wanted_found r seen x ps [] b e told = absurd (not_ok e)
 wanted_found r seen x ps (c ∷ bs) b e told =
     let long : length r.bytes ≡ length (c ∷ bs) = ap length b in
     elim (chosen (c == 40) _ _ _ e) [
-  inl (h, is) ↦ subst (λ (y : Read Turn). Came TurnHas ps r y) (ok_is is) (record { places = []; has = refl; told = none_more seen ps told; shorter = simp length-drop (omega (arith, long)) })
-  | inr (h, is) ↦ elim (chosen (begins_leaf c) _ _ _ is) [
-    inl (g, at) ↦ (let p = bind_ok (marked_leaf c r seen) _ x at in
-      subst (λ (y : Read Turn). Came TurnHas ps r y) (ok_is p.2) (leaf_turn r p.0 ps (marked_came c r seen p.0 ps p.1 told)))
-    | inr (g, at) ↦ named_came r seen x ps (opening (name_here r)) refl at told ] ]
+      | inl (h, is) ↦ subst (λ (y : Read Turn). Came TurnHas ps r y) (ok_is is) (record { places = []; has = refl; told = none_more seen ps told; shorter = simp length-drop (omega (arith, long)) })
+      | inr (h, is) ↦ elim (chosen (begins_leaf c) _ _ _ is) [
+        | inl (g, at) ↦ (let p = bind_ok (marked_leaf c r seen) _ x at in
+            subst (λ (y : Read Turn). Came TurnHas ps r y) (ok_is p.2) (leaf_turn r p.0 ps (marked_came c r seen p.0 ps p.1 told)))
+        | inr (g, at) ↦ named_came r seen x ps (opening (name_here r)) refl at told
+      ]
+    ]
 
 pub wanted_came : (r : Rest) (seen : Operands) (x : Read Turn) (ps : List Place) → wanted r seen ≡ Ok x → Tells seen ps → Came TurnHas ps r x
 unfolding wanted
@@ -277,10 +284,12 @@ ended_from ps (suc n) s t e h g =
     left_over n s u h w (inl k) = inr (w k)
     left_over n s u (inr k) w (inr l) = inr (w k)
     left_over n s u (inl k) w (inr l) = inl (omega (arith, k, l))
+
     whole_on : (frames : List Frame) (turn : Turn) (r : Rest) (seen : Operands) (u : Reading) → step_with frames turn r seen ≡ Ok u → whole_with frames turn ≡ true → is_whole u ≡ true
     whole_on frames (Opens f) r seen u e h = absurd (cc)
     whole_on [] (Whole part) r seen u e h = subst (λ (v : Reading). is_whole v ≡ true) (ok_is e) refl
     whole_on (f ∷ fs) (Whole part) r seen u e h = absurd (cc)
+
     still_whole : (s u : Reading) → step s ≡ Ok u → is_whole s ≡ true → is_whole u ≡ true
     still_whole s u e h = whole_on s.frames s.turn.value s.turn.rest s.turn.seen u e h
 
@@ -307,15 +316,16 @@ term_came r seen x ps e told =
     let q = bind_ok (steps (length r.bytes) (record { frames = []; turn = p.0 })) _ x p.2 in
     let came = wanted_came (skip_blanks r) seen p.0 ps p.1 told in
     let ended = ended_from ps (length r.bytes) (record { frames = []; turn = p.0 }) q.0 q.1 (inl (omega (arith, came.shorter, not_longer r)))
-        (record { outer = []; inner = came.places; stack = refl; turn = came.has; told = came.told }) in
+    (record { outer = []; inner = came.places; stack = refl; turn = came.has; told = came.told }) in
     let last = whole_at ps q.0.frames q.0.turn.value q.0.turn.seen ended.going.outer ended.going.inner ended.whole ended.going.stack ended.going.turn ended.going.told in
     subst (λ (y : Read (Option PatTerm)). (qs : List Place) × TermHas y.value qs × Tells y.seen (ps ++ qs)) (ok_is q.2) (ended.going.inner, last.0, last.1)
 
 pub address_came : (r : Rest) (seen : Operands) (x : Read (Option PatTerm)) (ps : List Place) → address r seen ≡ Ok x → Tells seen ps → (qs : List Place) × TermHas x.value qs × Tells x.seen (ps ++ qs)
 unfolding address
 address_came r seen x ps e told = elim (chosen (same (name_here r) (codes "M")) _ _ _ e) [
-  inl (h, is) ↦ (let p = bind_ok (mark 91 (skip_blanks (behind (prefix_len is_name_byte r.bytes) r))) _ x is in
-    let q = bind_ok (term p.0 seen) _ x p.2 in
-    let s = bind_ok (mark 93 (skip_blanks q.0.rest)) _ x q.2 in
-    subst (λ (y : Read (Option PatTerm)). (qs : List Place) × TermHas y.value qs × Tells y.seen (ps ++ qs)) (ok_is s.2) (term_came p.0 seen q.0 ps q.1 told))
-  | inr (h, is) ↦ absurd (not_ok is) ]
+  | inl (h, is) ↦ (let p = bind_ok (mark 91 (skip_blanks (behind (prefix_len is_name_byte r.bytes) r))) _ x is in
+      let q = bind_ok (term p.0 seen) _ x p.2 in
+      let s = bind_ok (mark 93 (skip_blanks q.0.rest)) _ x q.2 in
+      subst (λ (y : Read (Option PatTerm)). (qs : List Place) × TermHas y.value qs × Tells y.seen (ps ++ qs)) (ok_is s.2) (term_came p.0 seen q.0 ps q.1 told))
+  | inr (h, is) ↦ absurd (not_ok is)
+]

@@ -11,7 +11,7 @@ use Rattle.po_model.specs.declared.machine.PatReg.TheVariants.{Any, Fixed}
 use Rattle.po_model.specs.declared.machine.PatTransfer.{PatTransfer}
 use Rattle.po_model.specs.declared.machine.PatTransfer.TheVariants as transfer
 use Rattle.po_pattern.specs.declared.operands.Operands.{Operands}
-use Rattle.po_pattern.specs.Rests.{Rest, Read, wrong}
+use Rattle.po_pattern.specs.Rests.{Rest, Read}
 use Rattle.po_entry.specs.Words.{says, behind_word, keyword}
 use Rattle.po_entry.specs.Transfers.{transfer_in}
 
@@ -75,7 +75,7 @@ clobber_may_stand column pattern = if list_any sets_cc pattern then Err (fault c
 -- whether `clobber cc` stands here, behind these transfers
 unfoldable pub clobber_in : List PatTransfer → Rest → Operands → Result (Read Bool) LineFault
 clobber_in pattern r seen = if says (codes "clobber") r then (do
-      allowed ← clobber_may_stand r.column pattern
-      cc ← keyword (codes "cc") (behind_word r)
-      Ok (record { value = true; rest = cc; seen = seen }))
+  allowed ← clobber_may_stand r.column pattern
+  cc ← keyword (codes "cc") (behind_word r)
+  Ok (record { value = true; rest = cc; seen = seen }))
     else Ok (record { value = false; rest = r; seen = seen })

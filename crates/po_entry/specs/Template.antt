@@ -1,5 +1,5 @@
 -- The template of an entry: the bytes behind `=>` and one space, up to the line's end.
-use Rattle.std.specs.Prelude.{ℕ, ◌+◌, ◌-◌, ◌==◌, ◌&&◌, Bool, nat_le, List, [], ◌∷◌, ◌++◌, length, false, codes, if◌then◌else◌, Result, Ok, Err, Option, Some, None}
+use Rattle.std.specs.Prelude.{ℕ, ◌+◌, ◌-◌, ◌==◌, ◌&&◌, Bool, nat_le, List, [], ◌∷◌, ◌++◌, false, codes, if◌then◌else◌, Result, Ok, Err, Option, Some, None}
 use Rattle.po_text.specs.declared.fault.Kind.TheVariants as kind
 use Rattle.po_name.specs.Names.{is_digit}
 use Rattle.po_lines.specs.declared.fault.LineFault.{LineFault}

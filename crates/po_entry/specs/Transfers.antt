@@ -1,5 +1,5 @@
 -- The transfers of an entry. Where a term is beyond the limits, its transfer is none, though its form was read.
-use Rattle.std.specs.Prelude.{ℕ, Bool, List, codes, if◌then◌else◌, Result, Ok, Err, Option, Some, None}
+use Rattle.std.specs.Prelude.{ℕ, Bool, List, codes, if◌then◌else◌, Result, Ok, Option, Some, None}
 use Rattle.std.specs.Option.{option_map}
 use Rattle.po_word.specs.declared.operator.Rel.{Rel}
 use Rattle.po_word.specs.declared.operator.Rel.TheVariants.{Eq, Ne, Lt, Le, Gt, Ge, Ltu, Geu}
@@ -127,10 +127,10 @@ unfoldable pub if_in : Rest → Operands → Result (Read (Option PatTransfer)) 
 if_in r seen = do
   what ← keyword (codes "if") r
   if says (codes "cc") what
-    then branch_in (Some cond.Cc) (behind_word what) seen
-    else (do
-      two ← compared what seen
-      branch_in (option_map (λ p. cond.Two p.left p.right) two.value) two.rest two.seen)
+      then branch_in (Some cond.Cc) (behind_word what) seen
+      else (do
+        two ← compared what seen
+        branch_in (option_map (λ p. cond.Two p.left p.right) two.value) two.rest two.seen)
 
 -- `call &k`
 unfoldable pub call_in : Rest → Operands → Result (Read ℕ) LineFault
@@ -151,8 +151,8 @@ setting_in r seen = if says (codes "cc") r then cc_in r seen
 -- a transfer, by its first word
 unfoldable pub transfer_in : Rest → Operands → Result (Read (Option PatTransfer)) LineFault
 transfer_in r seen = if says (codes "goto") r then (do
-      k ← goto_in r seen
-      Ok (as_read (Some (transfer.Goto k.value)) k))
+  k ← goto_in r seen
+  Ok (as_read (Some (transfer.Goto k.value)) k))
     else (if says (codes "call") r then (do
       k ← call_in r seen
       Ok (as_read (Some (transfer.Call k.value)) k))

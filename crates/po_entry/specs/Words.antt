@@ -4,7 +4,6 @@ use Rattle.std.specs.List.{prefix_len}
 use Rattle.po_text.specs.Words.{is_blank}
 use Rattle.po_lines.specs.declared.fault.LineFault.{LineFault}
 use Rattle.po_lines.specs.Leaves.{same}
-use Rattle.po_lines.specs.Faults.{◌>>=◌}
 use Rattle.po_pattern.specs.Rests.{Rest, Read, behind, skip_blanks, wrong}
 
 abbrev pub is_word_byte : ℕ → Bool

@@ -73,9 +73,7 @@ fn all_go_before(before: &[PatTransfer], later: &PatTransfer) -> bool
 fn may_follow(before: &[PatTransfer], transfer: &PatTransfer) -> bool
     ensures { result ≡ rules.may_follow before.now transfer.now }
 {
-    before.len() < 4
-        && !sets(PatReg::Fixed(Reg::Fp), transfer)
-        && all_go_before(before, transfer)
+    before.len() < 4 && !sets(PatReg::Fixed(Reg::Fp), transfer) && all_go_before(before, transfer)
 }
 
 /// These transfers and one more, which was read at this column. One whose terms are beyond the limits is TooMany, and
@@ -143,7 +141,13 @@ pub fn transfers<'a>(
     if more == 0 || !says(list.rest, b";") {
         return Ok(list);
     }
-    transfers(alloc, more - 1, list.value, behind_word(list.rest), list.seen)
+    transfers(
+        alloc,
+        more - 1,
+        list.value,
+        behind_word(list.rest),
+        list.seen,
+    )
 }
 
 fn sets_cc(transfer: &PatTransfer) -> bool

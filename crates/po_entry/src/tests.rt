@@ -28,7 +28,11 @@ fn faults(rt: HostRuntime) {
         ("insn cc:= %0 ? %1 => x", 6, Kind::Word),
         ("insn %0:= %1 => x", 8, Kind::Word),
         ("insn cc := %0@? %1 => cmp %0,%1", 14, Kind::Word),
-        ("insn cc := %0 ? #1[-128,&127] => cmpi %0,#1", 25, Kind::Word),
+        (
+            "insn cc := %0 ? #1[-128,&127] => cmpi %0,#1",
+            25,
+            Kind::Word,
+        ),
         ("insn %0 := ; %2 := %3 => mov2 %0,%1,%2,%3", 12, Kind::Word),
         ("insn %0 := (%1 << %2)=> => sll %0,%1,%2", 22, Kind::Word),
         ("insn if %0 ? %1 l goto @2 => blt %0,%1,@2", 17, Kind::Word),

@@ -22,10 +22,7 @@ fn word_length(bytes: &[u8]) -> usize
     ensures value { result ≡ prefix_len words.is_word_byte bytes.now }
     ensures within { result ≤ length bytes.now }
 {
-    bytes
-        .iter()
-        .take_while(|byte| is_word_byte(**byte))
-        .count()
+    bytes.iter().take_while(|byte| is_word_byte(**byte)).count()
 }
 
 /// The bytes up to the next blank or the line's end.
