@@ -1,19 +1,14 @@
 -- A line that has its form is read.
-use Rattle.std.proofs.Common.{◌≡◌, ◌≢◌, ℕ, suc, ◌+◌, ◌-◌, ◌<◌, ◌≤◌, List, [], ◌∷◌, ◌++◌, Bool, true, false, Result, Ok, Err, refl, ap, sym, ◌∙◌, subst, length, take, drop, map, codes, append_assoc, arith, ◌⊎◌, inl, inr}
-use Rattle.std.specs.Prelude.{⊤, cond, nat_lt, nat_eq, ◌==◌, filter, not}
-use Rattle.std.specs.List.{AllByRecursion}
-use Rattle.std.proofs.lemmas.Bool.{false≢true}
+use Rattle.std.proofs.Common.{◌≡◌, ℕ, suc, ◌<◌, ◌≤◌, List, [], ◌∷◌, ◌++◌, Bool, true, false, Ok, refl, ap, sym, ◌∙◌, subst, length, take, drop, map, codes, arith, ◌⊎◌, inl, inr}
+use Rattle.std.specs.Prelude.{⊤, nat_lt, ◌==◌}
 use Rattle.std.proofs.lemmas.Bool.Decides.{nat_tests}
 use Rattle.std.proofs.lemmas.Cmp.{nat_list_eq_equiv}
 use Rattle.std.proofs.lemmas.List.{drop_all}
 use Rattle.po_name.specs.Names.{is_name}
-use Rattle.po_lines.specs.declared.fault.LineFault.{LineFault}
-use Rattle.po_lines.specs.Faults.{◌>>=◌, TextFault, at_line}
 use Rattle.po_lines.specs.Forms.{says_nothing, first_word, no_more, rest_words, name_alone}
 use Rattle.po_lines.specs.Leaves.{keyword_in, name_in, same}
 use Rattle.po_lines.specs.Lines.{Numbered}
 use Rattle.po_lines.specs.NameList.{has}
-use Rattle.po_lines.specs.Reading.{read_each}
 use Rattle.po_lines.specs.Words.{Placed, line_words, words_in}
 use Rattle.po_lines.proofs.NameLaws.{name_again}
 use Rattle.po_lines.proofs.WordLaws.{bytes_of}
@@ -21,7 +16,7 @@ use Rattle.po_model.specs.declared.machine.Entry.{Entry}
 use Rattle.po_model.specs.declared.machine.Machine.{Machine}
 use Rattle.po_entry.specs.Reading.{entry_in}
 use Rattle.po_mdread.specs.declared.sofar.Sofar.{Sofar}
-use Rattle.po_mdread.specs.declared.sofar.Sofar.TheVariants.{ToMachine, ToFrame, ToResult, ToArgs, ToRegs, ToEntries, Ended}
+use Rattle.po_mdread.specs.declared.sofar.Sofar.TheVariants.{ToFrame, ToResult, ToArgs, ToRegs, ToEntries, Ended}
 use Rattle.po_mdread.specs.NameLines.{names_in, at_least, none_past, four_names, register_names, with_new}
 use Rattle.po_mdread.specs.Reading as reading
 use Rattle.po_mdread.specs.Reading.{behind, with_entry, some_line, words_line, line_in, has_ended, step}
@@ -189,8 +184,8 @@ unfolding step line_in
 silent_step s l short silent = elim (either (has_ended s)) [
   | inl done ↦ rw done refl
   | inr going ↦ (let words : line_words l.bytes ≡ Ok (words_in l.bytes) = short_again l.bytes short in
-    let line : words_line s l (words_in l.bytes) ≡ Ok s = words_silent s l (words_in l.bytes) silent in
-    rw (going, words, line) refl)
+      let line : words_line s l (words_in l.bytes) ≡ Ok s = words_silent s l (words_in l.bytes) silent in
+      rw (going, words, line) refl)
 ]
 
 -- the forms of the lines

@@ -1,7 +1,7 @@
 -- What is read is a machine that a description may tell of.
-use Rattle.std.proofs.Common.{◌≡◌, ◌≢◌, ℕ, zero, suc, ◌+◌, ◌<◌, ◌≤◌, List, [], ◌∷◌, ◌++◌, Bool, true, false, Result, Ok, Err, refl, ap, sym, ◌∙◌, subst, length, length-append, get_or, arith, ◌⊎◌, inl, inr}
+use Rattle.std.proofs.Common.{◌≡◌, ◌≢◌, ℕ, zero, suc, ◌<◌, ◌≤◌, List, [], ◌∷◌, ◌++◌, Bool, true, false, Ok, refl, ap, sym, ◌∙◌, subst, length, length-append, get_or, arith, ◌⊎◌, inl, inr}
 use Rattle.std.specs.Prelude.{⊤, All, IsTrue, nat_eq, ◌||◌}
-use Rattle.std.specs.List.{AllByRecursion, AllPairs, list_any}
+use Rattle.std.specs.List.{AllPairs, list_any}
 use Rattle.std.specs.Cmp.Lexicographic.{pointwise}
 use Rattle.std.proofs.lemmas.Bool.{false≢true}
 use Rattle.std.proofs.lemmas.Cmp.{nat_list_eq_equiv}
@@ -9,7 +9,6 @@ use Rattle.std.proofs.lemmas.List.Elements.{All-cons}
 use Rattle.std.proofs.lemmas.List.Quantifiers.{all_pairs_push}
 use Rattle.po_text.specs.declared.fault.Spot.{Spot}
 use Rattle.po_name.specs.Names.{is_name}
-use Rattle.po_lines.specs.Faults.{TextFault}
 use Rattle.po_lines.specs.Lines.{Numbered}
 use Rattle.po_lines.specs.NameList.{has}
 use Rattle.po_lines.specs.Reading.{read_each}
@@ -21,7 +20,7 @@ use Rattle.po_model.specs.Machines.{IsMachine}
 use Rattle.po_mdread.specs.declared.sofar.Sofar.{Sofar}
 use Rattle.po_mdread.specs.declared.sofar.Sofar.TheVariants.{ToMachine, ToFrame, ToResult, ToArgs, ToRegs, ToEntries, Ended}
 use Rattle.po_mdread.specs.NameLines.{with_new}
-use Rattle.po_mdread.specs.Reading.{behind, names_sofar, some_line, has_ended, step, with_entry}
+use Rattle.po_mdread.specs.Reading.{names_sofar, some_line, has_ended, step}
 use Rattle.po_mdread.proofs.Ended.{rest_ended}
 use Rattle.po_mdread.proofs.NameLaws.{AreNames, new_are}
 use Rattle.po_mdread.proofs.LinesFound.{machine_found, frame_found, result_found, args_found, regs_found, entry_found}
@@ -121,14 +120,14 @@ said_fine (ToRegs n a b c) l w ws t e h =
     })
 said_fine (ToEntries m) l w ws t e h = elim (entry_found m l w ws t e) [
   | inl f ↦ (let long = length-append m.entries (f.entry ∷ []) in
-    let room = f.room in
-    let most = h.counted.entries in
-    subst IsFine (sym f.next) (record {
-      own = h.own;
-      named = h.named;
-      differ = h.differ;
-      counted = record { four = h.counted.four; some = h.counted.some; few = h.counted.few; entries = omega arith };
-    }))
+      let room = f.room in
+      let most = h.counted.entries in
+      subst IsFine (sym f.next) (record {
+        own = h.own;
+        named = h.named;
+        differ = h.differ;
+        counted = record { four = h.counted.four; some = h.counted.some; few = h.counted.few; entries = omega arith };
+      }))
   | inr f ↦ subst IsFine (sym f.next) (record { own = h.own; named = h.named; differ = h.differ; counted = h.counted })
 ]
 said_fine (Ended m at) l w ws t e h = subst IsFine (ok_is e) h
@@ -149,7 +148,7 @@ each_fine [] s t e h = subst IsFine (ok_is e) h
 each_fine (l ∷ ls) s t e h = elim (either (has_ended s)) [
   | inl done ↦ subst IsFine (ok_is (sym (rest_ended s (l ∷ ls) done) ∙ e)) h
   | inr going ↦ (let first = bind_ok (step s l) (λ (r : Sofar). read_each step r ls) t e in
-    each_fine ls first.0 t first.2 (step_fine s l first.0 first.1 going h))
+      each_fine ls first.0 t first.2 (step_fine s l first.0 first.1 going h))
 ]
 
 named_all : (xs : List (List ℕ)) → AreNames xs → All (λ n. IsTrue (is_name n)) xs

@@ -1,10 +1,9 @@
 -- Lines that describe a machine are read as it.
-use Rattle.std.proofs.Common.{◌≡◌, ℕ, ◌+◌, ◌<◌, ◌≤◌, List, [], ◌∷◌, ◌++◌, Bool, true, false, Result, Ok, Err, refl, ap, sym, ◌∙◌, subst, length, length-append, map, codes, append_assoc, append-nil, arith, ◌⊎◌, inl, inr}
-use Rattle.std.specs.Prelude.{⊤, cond, nat_eq, filter, not, All, IsTrue}
-use Rattle.std.specs.List.{AllByRecursion, starts_with}
+use Rattle.std.proofs.Common.{◌≡◌, ℕ, ◌+◌, ◌<◌, ◌≤◌, List, [], ◌∷◌, ◌++◌, Bool, true, false, Ok, refl, ap, sym, ◌∙◌, subst, length, length-append, map, codes, append_assoc, append-nil, arith, ◌⊎◌, inl, inr}
+use Rattle.std.specs.Prelude.{All, IsTrue}
+use Rattle.std.specs.List.{AllByRecursion}
 use Rattle.std.proofs.lemmas.List.Elements.{All-head, All-tail}
 use Rattle.po_name.specs.Names.{is_name}
-use Rattle.po_lines.specs.Faults.{TextFault}
 use Rattle.po_lines.specs.Forms.{says_nothing}
 use Rattle.po_lines.specs.Lines.{Numbered}
 use Rattle.po_lines.specs.Reading.{read_each}
@@ -12,10 +11,9 @@ use Rattle.po_lines.specs.Words.{Placed, words_in}
 use Rattle.po_lines.proofs.WordLaws.{bytes_of}
 use Rattle.po_model.specs.declared.machine.Entry.{Entry}
 use Rattle.po_model.specs.declared.machine.Machine.{Machine}
-use Rattle.po_model.specs.Machines.{register_names, IsMachine}
 use Rattle.po_mdread.specs.declared.sofar.Sofar.{Sofar}
 use Rattle.po_mdread.specs.declared.sofar.Sofar.TheVariants.{ToMachine, ToFrame, ToResult, ToArgs, ToRegs, ToEntries, Ended}
-use Rattle.po_mdread.specs.Description.{said_lines, line_texts, BeginsWith, IsInsnLine, AreInsnLines, head_texts, IsDescription}
+use Rattle.po_mdread.specs.Description.{said_lines, line_texts, BeginsWith, IsInsnLine, AreInsnLines, IsDescription}
 use Rattle.po_mdread.specs.Reading.{behind, with_entry, some_line, has_ended, step}
 use Rattle.po_mdread.proofs.Again.{AreNew, has_words, said_step, silent_step, machine_again, frame_again, result_again, args_again, regs_again, insn_again, end_again}
 use Rattle.po_mdread.proofs.Ended.{rest_ended}
@@ -23,7 +21,6 @@ use Rattle.po_mdread.proofs.LinesFound.{head_of}
 use Rattle.po_mdread.proofs.NameLaws.{AreNames}
 use Rattle.po_mdread.proofs.New.{new_from, new_front, new_back, names_front, names_back}
 use Rattle.po_mdread.proofs.Spots.{more_read}
-use Rattle.po_mdread.proofs.Steps.{IsShort}
 
 abbrev pub AreShort : List Numbered → Type 0
 AreShort ls = AllByRecursion (λ l. length l.bytes ≤ 4096) ls
@@ -60,23 +57,23 @@ pub reach : (s : Sofar) (ls : List Numbered) (l : Numbered) (rest : List Numbere
 reach s [] l rest short e = absurd (none_cons l rest e)
 reach s (x ∷ xs) l rest short e = elim (either (says_nothing (words_in x.bytes))) [
   | inl h ↦ (let r = reach s xs l rest short.1 (sym (silent_first x xs h) ∙ e) in
-    record {
-      more = r.more;
-      read = more_read s s x xs (read_each step s (l ∷ r.more)) (silent_step s x short.0 h) r.read;
-      said = r.said;
-      short = r.short;
-      here = r.here;
-      speaks = r.speaks;
-    })
+      record {
+        more = r.more;
+        read = more_read s s x xs (read_each step s (l ∷ r.more)) (silent_step s x short.0 h) r.read;
+        said = r.said;
+        short = r.short;
+        here = r.here;
+        speaks = r.speaks;
+      })
   | inr h ↦ (let p = cons_is x l (said_lines xs) rest (sym (said_first x xs h) ∙ e) in
-    record {
-      more = xs;
-      read = ap (λ (y : Numbered). read_each step s (y ∷ xs)) p.0;
-      said = p.1;
-      short = short.1;
-      here = subst (λ (y : Numbered). length y.bytes ≤ 4096) p.0 short.0;
-      speaks = subst (λ (y : Numbered). says_nothing (words_in y.bytes) ≡ false) p.0 h;
-    })
+      record {
+        more = xs;
+        read = ap (λ (y : Numbered). read_each step s (y ∷ xs)) p.0;
+        said = p.1;
+        short = short.1;
+        here = subst (λ (y : Numbered). length y.bytes ≤ 4096) p.0 short.0;
+        speaks = subst (λ (y : Numbered). says_nothing (words_in y.bytes) ≡ false) p.0 h;
+      })
 ]
 
 -- how the line is read

@@ -1,12 +1,8 @@
 -- What a line is that was read.
-use Rattle.std.proofs.Common.{◌≡◌, ◌≢◌, ℕ, ◌+◌, ◌≤◌, List, [], ◌∷◌, ◌++◌, Bool, true, false, Result, Ok, Err, refl, ap, sym, ◌∙◌, subst, length, map, codes, ◌⊎◌, inl, inr}
+use Rattle.std.proofs.Common.{◌≡◌, ◌≢◌, ℕ, List, [], ◌∷◌, Bool, true, false, Ok, refl, ap, sym, ◌∙◌, length, codes, ◌⊎◌, inl, inr}
 use Rattle.std.specs.Prelude.{⊤, nat_eq, ◌==◌}
-use Rattle.std.specs.Cmp.Lexicographic.{pointwise}
 use Rattle.std.proofs.lemmas.Bool.{eqb-true, false≢true}
-use Rattle.po_text.specs.declared.fault.Kind.TheVariants as kind
-use Rattle.po_text.specs.declared.fault.Spot.{Spot}
-use Rattle.po_lines.specs.declared.fault.LineFault.{LineFault}
-use Rattle.po_lines.specs.Faults.{◌>>=◌, fault}
+use Rattle.po_lines.specs.Faults.{◌>>=◌}
 use Rattle.po_lines.specs.Forms.{no_more, name_alone}
 use Rattle.po_lines.specs.Leaves.{keyword_in, same}
 use Rattle.po_lines.specs.Lines.{Numbered}
@@ -16,11 +12,11 @@ use Rattle.po_model.specs.declared.machine.Entry.{Entry}
 use Rattle.po_model.specs.declared.machine.Machine.{Machine}
 use Rattle.po_entry.specs.Reading.{entry_in}
 use Rattle.po_mdread.specs.declared.sofar.Sofar.{Sofar}
-use Rattle.po_mdread.specs.declared.sofar.Sofar.TheVariants.{ToMachine, ToFrame, ToResult, ToArgs, ToRegs, ToEntries, Ended}
+use Rattle.po_mdread.specs.declared.sofar.Sofar.TheVariants.{ToFrame, ToResult, ToArgs, ToRegs, ToEntries, Ended}
 use Rattle.po_mdread.specs.NameLines.{four_names, register_names, with_new}
 use Rattle.po_mdread.specs.Reading as reading
 use Rattle.po_mdread.specs.Reading.{with_entry, behind}
-use Rattle.po_mdread.proofs.NameLaws.{AreRead, AreFour, AreRegisters, alone_found, four_found, registers_found, no_more_found}
+use Rattle.po_mdread.proofs.NameLaws.{AreRead, AreRegisters, alone_found, four_found, registers_found, no_more_found}
 
 pub same_found : (xs ys : List ℕ) → same xs ys ≡ true → xs ≡ ys
 same_found [] [] e = refl
@@ -119,7 +115,7 @@ unfolding reading.insn_line
 insn_found m l w t h e = elim (chosen (length m.entries == 512) _ _ (Ok t) e) [
   | inl p ↦ absurd (not_ok p.1)
   | inr p ↦ (let entry = bind_ok (entry_in l.bytes) (λ (x : Entry). Ok (ToEntries (with_entry m x))) t p.1 in
-    record { first = h; entry = entry.0; read = entry.1; room = full (length m.entries) p.0; next = sym (ok_is entry.2) })
+      record { first = h; entry = entry.0; read = entry.1; room = full (length m.entries) p.0; next = sym (ok_is entry.2) })
 ]
 
 end_found : (m : Machine) (l : Numbered) (w : Placed) (ws : List Placed) (t : Sofar) → w.bytes ≡ codes "end" → reading.end_line m l ws ≡ Ok t → IsEnd m l w ws t

@@ -1,13 +1,11 @@
 -- What the names of a line are, where they are read.
-use Rattle.std.proofs.Common.{◌≡◌, ℕ, suc, ◌+◌, ◌-◌, ◌<◌, ◌≤◌, List, [], ◌∷◌, ◌++◌, Bool, true, false, Result, Ok, Err, refl, ap, sym, ◌∙◌, subst, length, take, drop, map, append_assoc, append-nil, arith, ◌⊎◌, inl, inr}
+use Rattle.std.proofs.Common.{◌≡◌, ℕ, suc, ◌-◌, ◌≤◌, List, [], ◌∷◌, ◌++◌, true, Ok, refl, ap, sym, ◌∙◌, subst, length, take, drop, map, append_assoc, append-nil, arith, inl, inr}
 use Rattle.std.specs.Prelude.{nat_lt, ⊤, All}
 use Rattle.std.specs.List.{AllByRecursion}
 use Rattle.std.proofs.lemmas.Bool.Decides.{nat_tests}
 use Rattle.std.proofs.lemmas.List.{length-drop}
-use Rattle.po_text.specs.declared.fault.Kind.TheVariants as kind
 use Rattle.po_name.specs.Names.{is_name}
-use Rattle.po_lines.specs.declared.fault.LineFault.{LineFault}
-use Rattle.po_lines.specs.Faults.{◌>>=◌, fault}
+use Rattle.po_lines.specs.Faults.{◌>>=◌}
 use Rattle.po_lines.specs.Forms.{first_word, no_more, rest_words, name_alone}
 use Rattle.po_lines.specs.Leaves.{name_in}
 use Rattle.po_lines.specs.NameList.{has}

@@ -1,11 +1,9 @@
 -- Names that all differ are new, one behind the other.
-use Rattle.std.proofs.Common.{◌≡◌, ◌≢◌, ℕ, zero, suc, ◌+◌, ◌<◌, List, [], ◌∷◌, ◌++◌, Bool, true, false, refl, ap, sym, ◌∙◌, subst, length, length-append, get_or, append_assoc, append-nil, arith}
-use Rattle.std.specs.Prelude.{⊤, nat_eq, ◌||◌}
-use Rattle.std.specs.List.{AllPairs, AllByRecursion}
+use Rattle.std.proofs.Common.{◌≡◌, ◌≢◌, ℕ, suc, ◌<◌, List, [], ◌∷◌, ◌++◌, Bool, true, false, refl, sym, ◌∙◌, subst, length, length-append, get_or, append_assoc, append-nil, arith}
+use Rattle.std.specs.Prelude.{nat_eq, ◌||◌}
 use Rattle.std.specs.Cmp.Lexicographic.{pointwise}
 use Rattle.std.proofs.Math.ListN.{get_or-append}
 use Rattle.std.proofs.Math.Seq.{get_or-append_seam}
-use Rattle.po_name.specs.Names.{is_name}
 use Rattle.po_lines.specs.NameList.{has}
 use Rattle.po_mdread.proofs.NameLaws.{AreNames}
 use Rattle.po_mdread.proofs.LinesFound.{same_found}
@@ -28,7 +26,7 @@ new_from before [] h = tt
 new_from before (n ∷ ns) h =
     let long = length-append before (n ∷ ns) in
     let apart = λ (k : ℕ) (d : List ℕ) (g : k < length before). (λ (e : get_or before k d ≡ n).
-      h k (length before) d g (omega arith) (get_or-append before (n ∷ ns) d k g ∙ e ∙ sym (get_or-append_seam before n ns d))) in
+    h k (length before) d g (omega arith) (get_or-append before (n ∷ ns) d k g ∙ e ∙ sym (get_or-append_seam before n ns d))) in
     (has_not n before apart, new_from (before ++ n ∷ []) ns (subst Differ (sym (append_assoc before (n ∷ []) ns)) h))
 
 pub new_front : (before xs ys : List (List ℕ)) → AreNew before (xs ++ ys) → AreNew before xs

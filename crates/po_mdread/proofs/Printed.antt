@@ -1,14 +1,10 @@
 -- A printed machine is read again.
-use Rattle.std.proofs.Common.{◌≡◌, ℕ, ◌+◌, ◌<◌, ◌≤◌, List, [], ◌∷◌, ◌++◌, Bool, true, false, Result, Ok, refl, ap, sym, ◌∙◌, subst, map, length, length-append, codes, arith}
-use Rattle.std.specs.Prelude.{⊤, nat_eq, All, IsTrue}
-use Rattle.std.specs.List.{AllByRecursion, flat_map, starts_with}
-use Rattle.std.proofs.lemmas.List.Elements.{All-head, All-tail}
+use Rattle.std.proofs.Common.{◌≡◌, ℕ, ◌+◌, ◌≤◌, List, [], ◌∷◌, ◌++◌, false, Ok, refl, ap, ◌∙◌, subst, map, length, length-append, codes, arith}
+use Rattle.std.specs.Prelude.{nat_eq}
+use Rattle.std.specs.List.{AllByRecursion, starts_with}
 use Rattle.po_text.specs.declared.fault.Spot.{Spot}
-use Rattle.po_text.specs.Words.{is_blank}
-use Rattle.po_name.specs.Names.{is_name}
-use Rattle.po_lines.specs.Faults.{TextFault}
 use Rattle.po_lines.specs.Forms.{says_nothing}
-use Rattle.po_lines.specs.Lines.{Numbered, lines_from, lines_behind, line_behind}
+use Rattle.po_lines.specs.Lines.{Numbered, lines_behind, line_behind}
 use Rattle.po_lines.specs.Reading.{read_each}
 use Rattle.po_lines.specs.Words.{Placed, words_in}
 use Rattle.po_lines.proofs.WordLaws.{IsSolid, bytes_of}
@@ -128,12 +124,19 @@ heads_speak m a b c d e h =
     let two = head_is _ _ _ _ one.1 in
     let three = head_is _ _ _ _ two.1 in
     let four = head_is _ _ _ _ three.1 in
-    let last = head_is _ _ _ _ four.1 in
-    (head_speaks a (codes "machine") (m.name ∷ []) one.0 refl,
-      (head_speaks b (codes "frame") (m.frame ∷ []) two.0 refl,
-        (head_speaks c (codes "result") (m.result ∷ []) three.0 refl,
-          (head_speaks d (codes "args") m.args four.0 refl,
-            (head_speaks e (codes "regs") m.regs last.0 refl, tt)))))
+    let last = head_is _ _ _ _ four.1 in (
+      head_speaks a (codes "machine") (m.name ∷ []) one.0 refl,
+      (
+        head_speaks b (codes "frame") (m.frame ∷ []) two.0 refl,
+        (
+          head_speaks c (codes "result") (m.result ∷ []) three.0 refl,
+          (
+            head_speaks d (codes "args") m.args four.0 refl,
+            (head_speaks e (codes "regs") m.regs last.0 refl, tt),
+          ),
+        ),
+      ),
+    )
 
 -- the lines of a machine, from the place of the first one on
 record IsListing (m : Machine) (ls : List Numbered) : Type 0 where
@@ -143,13 +146,22 @@ record IsListing (m : Machine) (ls : List Numbered) : Type 0 where
 
 plain_lines : (m : Machine) → IsPrintable m → AreNames (m.frame ∷ m.result ∷ (m.args ++ m.regs)) → AllByRecursion IsPlain (machine_lines m)
 unfolding machine_lines
-plain_lines m h named =
-    (head_plain (codes "machine") (m.name ∷ []) (plain_name (codes "machine") refl) (h.allowed.name, tt),
-      (head_plain (codes "frame") (m.frame ∷ []) (plain_name (codes "frame") refl) (named.0, tt),
-        (head_plain (codes "result") (m.result ∷ []) (plain_name (codes "result") refl) (named.1.0, tt),
-          (head_plain (codes "args") m.args (plain_name (codes "args") refl) (names_front m.args m.regs named.1.1),
-            (head_plain (codes "regs") m.regs (plain_name (codes "regs") refl) (names_back m.args m.regs named.1.1),
-              plain_tail m.entries h.entries)))))
+plain_lines m h named = (
+  head_plain (codes "machine") (m.name ∷ []) (plain_name (codes "machine") refl) (h.allowed.name, tt),
+  (
+    head_plain (codes "frame") (m.frame ∷ []) (plain_name (codes "frame") refl) (named.0, tt),
+    (
+      head_plain (codes "result") (m.result ∷ []) (plain_name (codes "result") refl) (named.1.0, tt),
+      (
+        head_plain (codes "args") m.args (plain_name (codes "args") refl) (names_front m.args m.regs named.1.1),
+        (
+          head_plain (codes "regs") m.regs (plain_name (codes "regs") refl) (names_back m.args m.regs named.1.1),
+          plain_tail m.entries h.entries,
+        ),
+      ),
+    ),
+  ),
+)
 
 abbrev spot : ℕ → ℕ → Spot
 spot offset line = record { offset = offset; line = line }

@@ -1,7 +1,7 @@
 -- Lines that are printed with their line feeds are these lines again.
-use Rattle.std.proofs.Common.{◌≡◌, ℕ, zero, suc, ◌+◌, ◌-◌, ◌<◌, ◌≤◌, List, [], ◌∷◌, ◌++◌, Bool, true, false, refl, ap, sym, ◌∙◌, subst, length, length-append, take, drop, min, append_assoc, arith}
-use Rattle.std.specs.Prelude.{◌==◌, cond, nat_lt, slice_index}
-use Rattle.std.specs.List.{AllByRecursion, flat_map, position_or_len}
+use Rattle.std.proofs.Common.{◌≡◌, ℕ, zero, suc, ◌+◌, ◌-◌, ◌≤◌, List, [], ◌∷◌, ◌++◌, true, false, refl, ap, ◌∙◌, subst, length, length-append, take, drop, min, append_assoc, arith}
+use Rattle.std.specs.Prelude.{◌==◌, nat_lt, slice_index}
+use Rattle.std.specs.List.{AllByRecursion, position_or_len}
 use Rattle.std.specs.Str.Lines.{strip_carriage_return}
 use Rattle.std.proofs.lemmas.Bool.Decides.{nat_tests}
 use Rattle.po_lines.specs.Lines.{Numbered, is_feed, line_until, lines_from}

@@ -1,5 +1,5 @@
 -- Where the lines of a text begin.
-use Rattle.std.proofs.Common.{◌≡◌, ℕ, ◌+◌, ◌-◌, ◌<◌, ◌≤◌, List, [], ◌∷◌, ◌++◌, Bool, true, false, Result, Ok, refl, ap, sym, ◌∙◌, subst, length, drop, min, arith, ◌⊎◌, inl, inr}
+use Rattle.std.proofs.Common.{◌≡◌, ℕ, ◌+◌, ◌-◌, ◌<◌, ◌≤◌, List, [], ◌∷◌, ◌++◌, Bool, true, false, Result, Ok, refl, ap, sym, ◌∙◌, length, drop, min, arith, ◌⊎◌, inl, inr}
 use Rattle.std.specs.List.{position_or_len}
 use Rattle.std.proofs.lemmas.List.{drop-drop, length-drop}
 use Rattle.po_text.specs.declared.fault.Spot.{Spot}
@@ -51,9 +51,9 @@ next_at at text l ls h e =
     elim (some_or_none (length rest)) [
       | inl none ↦ absurd (no_line l ls (sym (e ∙ ended at.line at.offset rest none)))
       | inr some ↦ (let k : ℕ = min (position_or_len is_feed rest) (length rest) in
-        let m : ℕ = min (length rest) (k + 1) in
-        let cut = head_is l (record { number = at.line; bytes = line_until rest k; after = at.offset + m }) ls (lines_from (at.line + 1) (at.offset + m) (drop m rest)) (e ∙ first_line_is at.line at.offset rest k refl some) in
-        next_is at text l (record { number = at.line; bytes = line_until rest k; after = at.offset + m }) ls m cut.0 refl refl (omega arith) (omega arith) cut.1)
+          let m : ℕ = min (length rest) (k + 1) in
+          let cut = head_is l (record { number = at.line; bytes = line_until rest k; after = at.offset + m }) ls (lines_from (at.line + 1) (at.offset + m) (drop m rest)) (e ∙ first_line_is at.line at.offset rest k refl some) in
+          next_is at text l (record { number = at.line; bytes = line_until rest k; after = at.offset + m }) ls m cut.0 refl refl (omega arith) (omega arith) cut.1)
     ]
 
 -- a place behind some of the lines from another place on
@@ -122,7 +122,7 @@ behind_end (l ∷ ls) at text s m end h e going read =
     let first = first_read s (Ended m end) l ls read in
     elim (either (has_ended first.0)) [
       | inl done ↦ (let same : Ended m end ≡ first.0 = ok_is (whole_read first.0 ls (Ok (Ended m end)) done first.2) in
-        let told : step s l ≡ Ok (Ended m end) = first.1 ∙ ap Ok (sym same) in
-        here at text l ls s m end e next told (ends_here s l m end told going))
+          let told : step s l ≡ Ok (Ended m end) = first.1 ∙ ap Ok (sym same) in
+          here at text l ls s m end e next told (ends_here s l m end told going))
       | inr more ↦ later at text l ls s first.0 m end e next first.1 (behind_end ls (behind l) text first.0 m end next.within next.rest more first.2)
     ]

@@ -1,12 +1,11 @@
 -- What a step over a line is that has no fault.
-use Rattle.std.proofs.Common.{◌≡◌, ℕ, ◌≤◌, List, [], ◌∷◌, Bool, true, false, Result, Ok, Err, refl, ap, sym, ◌∙◌, subst, length, arith, ◌⊎◌, inl, inr}
+use Rattle.std.proofs.Common.{◌≡◌, ℕ, ◌≤◌, List, [], ◌∷◌, true, false, Result, Ok, Err, refl, ap, sym, ◌∙◌, length, arith, ◌⊎◌, inl, inr}
 use Rattle.std.specs.Prelude.{nat_lt}
 use Rattle.std.proofs.lemmas.Bool.{false≢true}
 use Rattle.std.proofs.lemmas.Bool.Decides.{nat_tests}
-use Rattle.po_text.specs.declared.fault.Kind.TheVariants as kind
 use Rattle.po_text.specs.declared.fault.Spot.{Spot}
 use Rattle.po_lines.specs.declared.fault.LineFault.{LineFault}
-use Rattle.po_lines.specs.Faults.{◌>>=◌, fault, TextFault, text_fault, at_line}
+use Rattle.po_lines.specs.Faults.{at_line}
 use Rattle.po_lines.specs.Forms.{says_nothing}
 use Rattle.po_lines.specs.Lines.{Numbered}
 use Rattle.po_lines.specs.Words.{Placed, line_words, words_in}
@@ -62,7 +61,6 @@ step_found s l t e h =
     let words = bind_ok (line_words l.bytes) (λ (ws : List Placed). words_line s l ws) t read in
     let short = short_found l.bytes words.0 words.1 in
     silent_or_said s l words.0 t short.0 short.1 words.2
-
 
 ended_is : (m n : Machine) (at spot : Spot) → Ended m at ≡ Ended n spot → at ≡ spot
 ended_is m n at spot e = cc

@@ -1,10 +1,8 @@
 -- Lines that are read as a machine describe it.
-use Rattle.std.proofs.Common.{◌≡◌, ℕ, ◌+◌, ◌≤◌, List, [], ◌∷◌, ◌++◌, Bool, true, false, Result, Ok, Err, refl, ap, sym, ◌∙◌, subst, length, map, codes, append_assoc, ◌⊎◌, inl, inr}
+use Rattle.std.proofs.Common.{◌≡◌, ℕ, List, [], ◌∷◌, ◌++◌, false, Ok, refl, ap, sym, ◌∙◌, subst, map, codes, append_assoc, inl, inr}
 use Rattle.std.specs.Prelude.{⊤, All}
-use Rattle.std.specs.List.{AllByRecursion}
 use Rattle.std.proofs.lemmas.Bool.{false≢true}
 use Rattle.po_text.specs.declared.fault.Spot.{Spot}
-use Rattle.po_lines.specs.Faults.{◌>>=◌, TextFault}
 use Rattle.po_lines.specs.Forms.{says_nothing}
 use Rattle.po_lines.specs.Lines.{Numbered}
 use Rattle.po_lines.specs.Reading.{read_each}
@@ -16,12 +14,12 @@ use Rattle.po_model.specs.declared.machine.Machine.{Machine}
 use Rattle.po_model.specs.Entries.{IsEntry}
 use Rattle.po_mdread.specs.declared.sofar.Sofar.{Sofar}
 use Rattle.po_mdread.specs.declared.sofar.Sofar.TheVariants.{ToMachine, ToFrame, ToResult, ToArgs, ToRegs, ToEntries, Ended}
-use Rattle.po_mdread.specs.Description.{said_lines, line_texts, BeginsWith, IsInsnLine, AreInsnLines, head_texts, IsDescription, BeginWith}
+use Rattle.po_mdread.specs.Description.{said_lines, line_texts, BeginsWith, IsInsnLine, AreInsnLines, head_texts, BeginWith}
 use Rattle.po_mdread.specs.Reading.{behind, with_entry, some_line, has_ended, step, finish, described}
 use Rattle.po_mdread.proofs.Allowed.{none_fine, each_fine, machine_is}
 use Rattle.po_mdread.proofs.Described.{AreShort, said_first, silent_first, no_entries, more_entries, with_entries, description_again}
 use Rattle.po_mdread.proofs.Ended.{rest_ended}
-use Rattle.po_mdread.proofs.LinesFound.{IsHead, head_of, machine_found, frame_found, result_found, args_found, regs_found, entry_found}
+use Rattle.po_mdread.proofs.LinesFound.{head_of, machine_found, frame_found, result_found, args_found, regs_found, entry_found}
 use Rattle.po_mdread.proofs.Spots.{first_read, none_read, more_read}
 use Rattle.po_mdread.proofs.Steps.{IsShort, IsSilent, IsSaid, step_found}
 
@@ -190,9 +188,9 @@ said_written (ToRegs n a b c) t l ls m end going p read more =
     (ap (λ (k : Machine). k.entries) whole, ap (λ (k : Machine). k.name) whole, ap (λ (k : Machine). k.frame) whole, ap (λ (k : Machine). k.result) whole, ap (λ (k : Machine). k.args) whole)
 said_written (ToEntries k) t l ls m end going p read more = elim (entry_found k l p.first p.others t p.told) [
   | inl f ↦ with_insn k f.entry l ls m end p.short (ap says_nothing p.words ∙ p.said) (record { first = begins_with l p.first p.others p.words f.first; entry = f.read })
-    (subst (λ (r : Sofar). IsWritten r ls m end) f.next (more (ap has_ended f.next)))
+      (subst (λ (r : Sofar). IsWritten r ls m end) f.next (more (ap has_ended f.next)))
   | inr f ↦ with_end k l ls m end p.short (ap says_nothing p.words ∙ p.said) (texts_are l p.first p.others (codes "end") [] p.words f.first (ap (map bytes_of) f.alone))
-    (subst (λ (r : Sofar). read_each step r ls ≡ Ok (Ended m end)) f.next read)
+      (subst (λ (r : Sofar). read_each step r ls ≡ Ok (Ended m end)) f.next read)
 ]
 said_written (Ended k at) t l ls m end going p read more = absurd (false≢true (sym going))
 

@@ -13,8 +13,7 @@ ghost use Rattle.po_mdread.specs.Reading.{described, machine_in};
 /// (docs/DESCRIPTION.md).
 pub fn printed_again()
     ensures { (m : Machine) → IsPrintable m → machine_in (machine_text m) ≡ Ok (m, end_of_text m) }
-{
-}
+{}
 
 /// A machine and a place are read from lines exactly where these begin with a description of the machine and the place
 /// is the one behind it (docs/DESCRIPTION.md). In the one direction the entries have to be allowed, as those that
@@ -22,5 +21,4 @@ pub fn printed_again()
 pub fn what_is_described()
     ensures read { (ls : List Numbered) → (n : ℕ) → (m : Machine) → (at : Spot) → described ls n ≡ Ok (m, at) → All IsEntry m.entries → BeginWith ls m at }
     ensures described { (ls : List Numbered) → (n : ℕ) → (m : Machine) → (at : Spot) → BeginWith ls m at → described ls n ≡ Ok (m, at) }
-{
-}
+{}

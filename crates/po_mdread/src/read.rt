@@ -58,12 +58,7 @@ fn some_line(
 
 /// A line from its words.
 #[tactic(auto, unfolding(crate::specs::Reading::words_line))]
-fn words_line(
-    alloc: Global,
-    state: State,
-    line: &Line,
-    words: &[Word],
-) -> Result<State, LineError>
+fn words_line(alloc: Global, state: State, line: &Line, words: &[Word]) -> Result<State, LineError>
     requires state { IsState state }
     requires short { length line.now.bytes.now ≤ 4096 }
     ensures gives { Gives (λ s. s.sofar) result (reading.words_line state.sofar (line_of line.now) (map seen words.now)) }

@@ -1,6 +1,5 @@
-use Rattle.std.proofs.Common.{◌≡◌, ℕ, ◌≤◌, List, refl, ap, sym, ◌∙◌, map, drop, length, min, arith, ◌⊎◌, inl, inr}
-use Rattle.std.proofs.lemmas.List.{drop-map, drop_all, take_rest}
-use Rattle.po_lines.specs.declared.word.Word.{Word}
+use Rattle.std.proofs.Common.{◌≡◌, sym, length, min, arith}
+use Rattle.std.proofs.lemmas.List.{drop-map, take_rest}
 use Rattle.po_lines.specs.Words.{seen}
 use Rattle.po_mdread.proofs.NameTurns.{drop_min}
 use Rattle.po_mdread.proofs.names.back.Goals as goal

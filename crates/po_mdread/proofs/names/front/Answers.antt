@@ -1,4 +1,4 @@
-use Rattle.std.proofs.Common.{◌≡◌, ap, sym, ◌∙◌, map, take, length, min, arith}
+use Rattle.std.proofs.Common.{◌≡◌, sym, length, min, arith}
 use Rattle.std.proofs.lemmas.List.{take-map, take_min}
 use Rattle.po_lines.specs.Words.{seen}
 use Rattle.po_mdread.proofs.names.front.Goals as goal

@@ -1,6 +1,3 @@
-use Rattle.std.proofs.Common.{map}
-use Rattle.po_lines.specs.Words.{seen}
-use Rattle.po_mdread.specs.NameLines.{names_in}
 use Rattle.po_mdread.proofs.NameTurns.{names_on, names_fail, names_done}
 use Rattle.po_mdread.proofs.names.names.Goals as goal
 

@@ -1,4 +1,3 @@
-use Rattle.std.proofs.Common.{map}
 use Rattle.po_mdread.proofs.NameTurns.{new_names_on, new_names_fail, new_names_done, is_new, is_there, with_it}
 use Rattle.po_mdread.proofs.names.with_new.Goals as goal
 

@@ -1,4 +1,4 @@
-use Rattle.std.proofs.Common.{◌≡◌, ap, ◌∙◌, sym, subst, refl, Ok, arith, List}
+use Rattle.std.proofs.Common.{◌≡◌, ap, ◌∙◌, subst, refl, Ok, arith, List}
 use Rattle.std.specs.Prelude.{All}
 use Rattle.po_lines.specs.Lines.{Ahead, Numbered, lines_behind}
 use Rattle.po_lines.specs.Reading.{read_each}
