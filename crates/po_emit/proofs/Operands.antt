@@ -1,5 +1,5 @@
 -- The ten operands that a recogniser answers are written as what is found at the places of the pattern.
-use Rattle.std.proofs.Common.{◌≡◌, ℕ, zero, suc, ◌+◌, ◌<◌, arith, Bool, true, false, List, [], ◌∷◌, ◌++◌, Option, Some, None, refl, ap, sym, ◌∙◌, subst}
+use Rattle.std.proofs.Common.{◌≡◌, ℕ, zero, suc, ◌+◌, arith, Bool, true, false, List, [], ◌∷◌, ◌++◌, Option, Some, None, refl, ap, ◌∙◌}
 use Rattle.std.specs.Prelude.{nat_lt, slice_get, codes}
 use Rattle.std.specs.Option.{option_map}
 use Rattle.std.specs.List.{flat_map}
@@ -16,7 +16,7 @@ use Rattle.po_model.specs.Assembly as model
 use Rattle.po_recog.specs.declared.answer.Operand.{Operand}
 use Rattle.po_recog.specs.declared.answer.Fit.{Fit}
 use Rattle.po_recog.specs.Operands.{operand_from, operands_in, fit_from, fit_of}
-use Rattle.po_emit.specs.Texts.{slot_at, operand_text, piece_text, filled, filled_from, line_with}
+use Rattle.po_emit.specs.Texts.{slot_at, operand_text, piece_text, filled_from, line_with}
 
 abbrev Places : Type 0
 Places = List (Found ℕ Register Symbol)
