@@ -1,14 +1,19 @@
-use Rattle.std.proofs.Common.{◌≡◌, ℕ, suc, zero, subst, sym, ◌∙◌, arith}
+use Rattle.std.proofs.Common.{◌≡◌, ℕ, suc, zero, arith}
 use Rattle.po_model.specs.UnitCodes.{unit_of, IsUnitCode}
 use Rattle.po_model.specs.Fitted.{IsUnrecognised}
-use Rattle.po_run.specs.Output.{Fits, FirstBad}
-use Rattle.po_run.specs.Steps.{units_of}
+use Rattle.po_run.specs.Output.{Fits}
 use Rattle.po_run.proofs.Each.{all_at, good_next, bad_next, bad_here}
 use Rattle.po_run.proofs.Refused.{unrecognised}
 use Rattle.po_run.proofs.units.check_all.Goals as goal
 
-pub check-requires-clause-formed : goal.check-requires-clause-formed
-check-requires-clause-formed c = all_at IsUnitCode unit_of c.args.codes.now c.loop-code.code-index c.code-item.result c.requires.formed c.loop-code-test.true c.code-item.is
+pub check-requires-clause-code : goal.check-requires-clause-code
+check-requires-clause-code c = (all_at IsUnitCode unit_of c.args.codes.now c.loop-code.code-index c.code-item.result c.requires.formed c.loop-code-test.true c.code-item.is).ends_last
+
+pub check-requires-clause-few_instrs : goal.check-requires-clause-few_instrs
+check-requires-clause-few_instrs c = (all_at IsUnitCode unit_of c.args.codes.now c.loop-code.code-index c.code-item.result c.requires.formed c.loop-code-test.true c.code-item.is).few_instrs
+
+pub check-requires-clause-few_blocks : goal.check-requires-clause-few_blocks
+check-requires-clause-few_blocks c = (all_at IsUnitCode unit_of c.args.codes.now c.loop-code.code-index c.code-item.result c.requires.formed c.loop-code-test.true c.code-item.is).few_blocks
 
 pub returns-in-Err-Unrecognised : goal.returns-in-Err-Unrecognised
 returns-in-Err-Unrecognised c = rw (c.loop-code.invariant.counted, c.in-Err-Unrecognised.block-is, c.in-Err-Unrecognised.index-is)
