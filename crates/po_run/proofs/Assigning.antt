@@ -1,8 +1,8 @@
 -- All units are placed, one after another.
-use Rattle.std.proofs.Common.{◌≡◌, ℕ, zero, suc, ◌+◌, ◌<◌, List, [], ◌∷◌, ◌++◌, length, map, get_or, All, refl, ap, sym, ◌∙◌, subst, arith, append_assoc, append-nil}
+use Rattle.std.proofs.Common.{◌≡◌, ℕ, zero, suc, ◌+◌, List, [], ◌∷◌, ◌++◌, length, All, refl, ap, sym, ◌∙◌, subst, arith, append_assoc, append-nil}
 use Rattle.po_model.specs.declared.code.UnitCode.{UnitCode}
 use Rattle.po_model.specs.declared.machine.Machine.{Machine}
-use Rattle.po_model.specs.UnitCodes.{PlainUnit, unit_of, flat, IsUnitCode}
+use Rattle.po_model.specs.UnitCodes.{unit_of, flat, IsUnitCode}
 use Rattle.po_model.specs.Placement.{registers}
 use Rattle.po_assign.specs.declared.answer.Placed.{Placed}
 use Rattle.po_run.specs.Output.{FirstBad, HasRoom, IsShort}

@@ -1,19 +1,18 @@
 -- A text that has an output compiles, unless memory is wanted or the source or the sink fails.
-use Rattle.std.proofs.Common.{◌≡◌, ℕ, zero, suc, ◌+◌, ◌-◌, ◌^◌, ◌<◌, ◌≤◌, List, [], ◌∷◌, ◌++◌, length, All, Option, Some, None, Result, Ok, Err, Bool, true, false, IsTrue, refl, ap, sym, ◌∙◌, subst, arith, ◌⊎◌, inl, inr}
+use Rattle.std.proofs.Common.{◌≡◌, ℕ, zero, suc, ◌+◌, ◌-◌, ◌^◌, ◌<◌, ◌≤◌, List, [], ◌∷◌, ◌++◌, length, All, Option, Some, None, Result, Ok, Err, Bool, true, false, IsTrue, refl, ap, sym, ◌∙◌, subst, arith, inl, inr}
 use Rattle.std.proofs.lemmas.List.{append-nil, length-append}
 use Rattle.std.specs.Prelude.{◌↔◌}
 use Rattle.std.specs.declared.string.String.{String}
 use Rattle.std.specs.declared.alloc.Global.{Global}
 use Rattle.po_text.specs.Causes.{Rose, before_known}
 use Rattle.po_text.specs.declared.fault.Kind.{Kind}
-use Rattle.po_lines.specs.Faults.{TextFault, text_fault}
+use Rattle.po_lines.specs.Faults.{text_fault}
 use Rattle.po_ir.specs.declared.unit.Unit.{Unit as StackUnit}
 use Rattle.po_model.specs.declared.machine.Machine.{Machine}
-use Rattle.po_model.specs.UnitCodes.{PlainUnit, flat}
+use Rattle.po_model.specs.UnitCodes.{PlainUnit}
 use Rattle.po_model.specs.Blocks.{instrs_at}
 use Rattle.po_model.specs.Fit.{fit}
 use Rattle.po_model.specs.Fitted.{IsUnrecognised, instr_at}
-use Rattle.po_model.specs.Placement.{intervals, count_at}
 use Rattle.po_run.specs.declared.status.Status.{Status}
 use Rattle.po_run.specs.declared.status.Status.TheVariants as status
 use Rattle.po_run.specs.Input.{Program, input_in, IsInput}

@@ -1,5 +1,5 @@
 -- What holds of each unit of a list, as the list is gone through.
-use Rattle.std.proofs.Common.{◌≡◌, ℕ, zero, suc, ◌+◌, ◌<◌, List, [], ◌∷◌, ◌++◌, length, drop, map, get_or, All, refl, ap, sym, ◌∙◌, subst, add-one, drop-cons, arith}
+use Rattle.std.proofs.Common.{◌≡◌, ℕ, zero, suc, ◌+◌, ◌<◌, List, [], ◌∷◌, ◌++◌, length, drop, map, get_or, All, refl, ap, sym, subst, add-one, drop-cons, arith}
 use Rattle.po_run.specs.Output.{FirstBad}
 
 -- the next element, and those behind it

@@ -1,5 +1,5 @@
 -- What the refusals of a unit say.
-use Rattle.std.proofs.Common.{◌≡◌, ◌<◌, ℕ, List, length, take, Option, Result, Err, subst}
+use Rattle.std.proofs.Common.{◌≡◌, ◌<◌, ℕ, List, length, take, Option, Err, subst}
 use Rattle.po_text.specs.Causes.{before_known}
 use Rattle.po_text.specs.Place.{place_behind}
 use Rattle.po_text.specs.Source.{OnTooLong}

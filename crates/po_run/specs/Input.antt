@@ -1,5 +1,5 @@
 -- What a text says: a description and the units behind it, or its first fault.
-use Rattle.std.specs.Prelude.{ℕ, ◌≡◌, ◌≤◌, List, length, All, Result, Ok, Err}
+use Rattle.std.specs.Prelude.{ℕ, ◌≡◌, ◌≤◌, List, length, All, Result, Ok}
 use Rattle.po_lines.specs.Faults.{◌>>=◌, TextFault}
 use Rattle.po_ir.specs.declared.unit.Unit.{Unit as StackUnit}
 use Rattle.po_ir.specs.Reading.{units_behind}

@@ -5,7 +5,6 @@ ghost use Rattle.po_ir.specs.Units.{IsUnit};
 ghost use Rattle.po_model.specs.Machines.{IsMachine};
 ghost use Rattle.po_model.specs.UnitCodes.{unit_of, IsUnitCode};
 ghost use Rattle.po_model.specs.Naive.{naive};
-
 ghost use Rattle.po_run.specs.Output.{AreAssembled};
 ghost use Rattle.po_run.specs.Steps.{units_of, placed_of, Checked, Assigned, ArePlaced, IsMemory};
 

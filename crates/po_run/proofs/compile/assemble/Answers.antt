@@ -1,4 +1,3 @@
-use Rattle.std.proofs.Common.{◌≡◌}
 use Rattle.po_run.specs.Input.{program_of}
 use Rattle.po_run.proofs.Compiled.{compiled, refused}
 use Rattle.po_run.proofs.compile.assemble.Goals as goal

@@ -1,4 +1,4 @@
-use Rattle.std.proofs.Common.{◌≡◌, ℕ, Vec, Global, refl, inr}
+use Rattle.std.proofs.Common.{ℕ, Vec, Global, refl, inr}
 use Rattle.po_run.proofs.Refused.{too_long}
 use Rattle.po_run.proofs.serial.run.Goals as goal
 

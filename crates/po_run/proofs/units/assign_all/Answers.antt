@@ -1,4 +1,4 @@
-use Rattle.std.proofs.Common.{◌≡◌, ap}
+use Rattle.std.proofs.Common.{ap}
 use Rattle.po_model.specs.UnitCodes.{unit_of}
 use Rattle.po_run.proofs.Assigning.{assigning_begin, first_formed, assigning_next, assigning_short, assigning_end, placed_so}
 use Rattle.po_run.proofs.Each.{none_left}

@@ -1,4 +1,4 @@
-use Rattle.std.proofs.Common.{◌≡◌, ℕ, suc, zero, arith}
+use Rattle.std.proofs.Common.{suc, zero, arith}
 use Rattle.po_model.specs.UnitCodes.{unit_of, IsUnitCode}
 use Rattle.po_model.specs.Fitted.{IsUnrecognised}
 use Rattle.po_run.specs.Output.{Fits}

@@ -1,4 +1,4 @@
-use Rattle.std.proofs.Common.{◌≡◌, arith}
+use Rattle.std.proofs.Common.{arith}
 use Rattle.po_model.specs.UnitCodes.{unit_of, IsUnitCode}
 use Rattle.po_run.specs.Steps.{IsPlaced}
 use Rattle.po_run.proofs.Each.{all_at, all_here}

@@ -1,4 +1,3 @@
-use Rattle.std.proofs.Common.{◌≡◌}
 use Rattle.po_model.specs.UnitCodes.{unit_of, IsUnitCode}
 use Rattle.po_run.proofs.Each.{all_append}
 use Rattle.po_run.proofs.Written.{expanded_next, units_append}
