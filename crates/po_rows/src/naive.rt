@@ -1,5 +1,6 @@
-//! The mode `naive`.
+//! The mode `naive`. The lines of `TINY` are 1 to 30, so a unit behind it begins in line 31.
 
+use po_mdread::TINY;
 use po_run::{Status, po_serial};
 use po_text::{Kind, MemSink, MemSource};
 use std::alloc::Global;
@@ -7,20 +8,56 @@ use std::test::Fail;
 
 const HEAD: &str = "machine tiny\nframe fp\nresult rv\nargs a0 a1 a2 a3\nregs r0 r1 r2 r3\n";
 
-const LI: &str = "insn %0 := #1 => li %0,#1\n";
+const SMALL: &str = "\
+insn %0 := #1 => li %0,#1\n\
+insn %0 := (fp + #1) => lea %0,#1\n\
+insn %0 := M[%1] => ld %0,(%1)\n\
+insn %0 := (%1 + %2) => add %0,%1,%2\n\
+insn %0 := %1 => mov %0,%1\n\
+insn ret => ret\n\
+end\n";
 
-const LEA_LD: &str = "insn %0 := (fp + #1) => lea %0,#1\ninsn %0 := M[%1] => ld %0,(%1)\n";
+const SMALL_WITHOUT_ADD: &str = "\
+insn %0 := #1 => li %0,#1\n\
+insn %0 := (fp + #1) => lea %0,#1\n\
+insn %0 := M[%1] => ld %0,(%1)\n\
+insn %0 := %1 => mov %0,%1\n\
+insn ret => ret\n\
+end\n";
 
-const ADD: &str = "insn %0 := (%1 + %2) => add %0,%1,%2\n";
-
-const MOV_RET: &str = "insn %0 := %1 => mov %0,%1\ninsn ret => ret\nend\n";
-
-const CONSTANT: &str = "unit f\ncon -2147483648\nret\nend\n";
+const TINY_WITHOUT_ADD: &str = "\
+machine tiny\n\
+frame fp\n\
+result rv\n\
+args a0 a1 a2 a3\n\
+regs r0 r1 r2 r3\n\
+insn %0 := #1 => li %0,#1\n\
+insn %0 := (fp + #1) => lea %0,#1\n\
+insn %0 := &1 => la %0,&1\n\
+insn %0 := M[%1] => ld %0,(%1)\n\
+insn %0 := M[(%1 + #2[-128,127])] => ld %0,#2(%1)\n\
+insn M[%0] := %1 => st %1,(%0)\n\
+insn M[(%0 + #1[-128,127])] := %2 => st %2,#1(%0)\n\
+insn %0 := (%1 + #2[-128,127]) => addi %0,%1,#2\n\
+insn %0 := %1 => mov %0,%1\n\
+insn cc := %0 ? %1 => cmp %0,%1\n\
+insn cc := %0 ? #1[-128,127] => cmpi %0,#1\n\
+insn if cc eq goto @0 => beq @0\n\
+insn if cc ne goto @0 => bne @0\n\
+insn if cc lt goto @0 => blt @0\n\
+insn if cc le goto @0 => ble @0\n\
+insn if cc gt goto @0 => bgt @0\n\
+insn if cc ge goto @0 => bge @0\n\
+insn if cc ltu goto @0 => bltu @0\n\
+insn if cc geu goto @0 => bgeu @0\n\
+insn if %0 ? #1[-128,127] eq goto @2 clobber cc => cbeq %0,#1,@2\n\
+insn goto @0 => jmp @0\n\
+insn call &0 => call &0\n\
+insn ret => ret\n\
+end\n\
+";
 
 const LOAD_AND_ADD: &str = "unit f\nadl 4\nlod\ncon 1\nadd\nret\nend\n";
-
-const LOADED_AND_ADDED: &str =
-    "f:\n  lea r0,4\n  ld r0,(r0)\n  li r1,1\n  add r0,r0,r1\n  mov rv,r0\n  ret\n";
 
 /// How the streams behave: how many bytes a call moves, the calls of each that fail, and the sink's room.
 #[derive(Clone, Copy, Debug)]
@@ -74,38 +111,66 @@ fn run(alloc: Global, word: &str, text: Vec<u8>, streams: &Streams) -> Result<En
 }
 
 /// An input that compiles, and its assembly.
+const COMPILES: [([&str; 3], &str); 9] = [
+    (
+        [HEAD, SMALL, LOAD_AND_ADD],
+        "f:\n  lea r0,4\n  ld r0,(r0)\n  li r1,1\n  add r0,r0,r1\n  mov rv,r0\n  ret\n",
+    ),
+    (
+        [TINY, "", LOAD_AND_ADD],
+        "f:\n  lea r0,4\n  ld r0,(r0)\n  li r1,1\n  add r0,r0,r1\n  mov rv,r0\n  ret\n",
+    ),
+    (
+        [
+            TINY,
+            "",
+            "unit f\ncon 1\ncon 2\ncon 3\ncon 4\nadd\nadd\nadd\nret\nend\n",
+        ],
+        "f:\n  li r0,1\n  li r1,2\n  li r2,3\n  li r3,4\n  add r2,r2,r3\n  add r1,r1,r2\n  add r0,r0,r1\n  mov rv,r0\n  ret\n",
+    ),
+    // Blocks and labels; a label is written behind its unit's name.
+    (
+        [
+            TINY,
+            "unit f\ncon 3\ncon 3\nbeq L\ncon 1\nret\nlab L\ncon 2\nret\nend\n",
+            "unit g\nlab L\njmp L\nend\n",
+        ],
+        "f:\n  li r0,3\n  li r1,3\n  cmp r0,r1\n  beq f.L\n  li r0,1\n  mov rv,r0\n  ret\nf.L:\n  li r0,2\n  mov rv,r0\n  ret\ng:\ng.L:\n  jmp g.L\n",
+    ),
+    // A call and its argument; its result is read in the next block.
+    (
+        [TINY, "", "unit f\nadg x\narg 0\ncall g 1\nret\nend\n"],
+        "f:\n  la r0,x\n  mov a0,r0\n  call g\n  mov r0,rv\n  mov rv,r0\n  ret\n",
+    ),
+    // A constant has its signed view.
+    (
+        [TINY, "", "unit f\ncon 4294967295\nret\nend\n"],
+        "f:\n  li r0,-1\n  mov rv,r0\n  ret\n",
+    ),
+    // Comments, empty lines, tabs, carriage returns, and no line feed at the end.
+    (
+        [
+            TINY,
+            "// units\n\nunit\tf\r\n",
+            "  con  007 \r\n\t//\nret\nend",
+        ],
+        "f:\n  li r0,7\n  mov rv,r0\n  ret\n",
+    ),
+    // Doubled marks.
+    (
+        [
+            HEAD,
+            "insn %0 := #1 => 100%% ##%0 @@&& #1\ninsn %0 := %1 => mov %0,%1\ninsn ret => ret\nend\n",
+            "unit f\ncon -2147483648\nret\nend\n",
+        ],
+        "f:\n  100% #r0 @& -2147483648\n  mov rv,r0\n  ret\n",
+    ),
+    ([TINY, "", ""], ""),
+];
+
 #[test]
 fn compiles(rt: HostRuntime) -> Result<(), Fail> {
-    let rows: [(&[&str], &str); 4] = [
-        (
-            &[HEAD, LI, MOV_RET, "unit f\ncon 1\nret\nend\n"],
-            "f:\n  li r0,1\n  mov rv,r0\n  ret\n",
-        ),
-        (
-            &[HEAD, LI, LEA_LD, ADD, MOV_RET, LOAD_AND_ADD],
-            LOADED_AND_ADDED,
-        ),
-        (
-            &[
-                HEAD,
-                LI,
-                ADD,
-                MOV_RET,
-                "unit f\ncon 1\ncon 2\ncon 3\ncon 4\nadd\nadd\nadd\nret\nend\n",
-            ],
-            "f:\n  li r0,1\n  li r1,2\n  li r2,3\n  li r3,4\n  add r2,r2,r3\n  add r1,r1,r2\n  add r0,r0,r1\n  mov rv,r0\n  ret\n",
-        ),
-        (
-            &[
-                HEAD,
-                "insn %0 := #1 => 100%% ##%0 @@&& #1\n",
-                MOV_RET,
-                "unit f\ncon -2147483648\nret\nend\n",
-            ],
-            "f:\n  100% #r0 @& -2147483648\n  mov rv,r0\n  ret\n",
-        ),
-    ];
-    for (parts, assembly) in rows {
+    for (parts, assembly) in &COMPILES {
         let ended = run(rt.alloc(), "naive", text_of(rt.alloc(), parts)?, &GOOD)?;
         assert_eq!(rt; ended.status, Status::Done, "{assembly}");
         assert_eq!(rt; ended.sink.kept(), assembly.as_bytes(), "{assembly}");
@@ -114,50 +179,157 @@ fn compiles(rt: HostRuntime) -> Result<(), Fail> {
     Ok(())
 }
 
-/// An input that doesn't compile: its status and what is told. Nothing is written.
+/// An input with a fault: its place and kind, and what is told.
+const FAULTS: [([&str; 2], u32, u32, Kind, &str); 10] = [
+    (["", ""], 1, 1, Kind::Word, "po: line 1, column 1: Word\n"),
+    (
+        [TINY, "unit f\ncon 1\nre"],
+        33,
+        1,
+        Kind::Word,
+        "po: line 33, column 1: Word\n",
+    ),
+    (
+        [TINY, "unit f\nlab a\nlab a\n"],
+        33,
+        5,
+        Kind::Duplicate,
+        "po: line 33, column 5: Duplicate\n",
+    ),
+    (
+        [TINY, "unit f\nend\n"],
+        32,
+        1,
+        Kind::FallsOff,
+        "po: line 32, column 1: FallsOff\n",
+    ),
+    (
+        [TINY, "unit f\ncon 1\njmp L\n"],
+        33,
+        1,
+        Kind::StackAtBoundary,
+        "po: line 33, column 1: StackAtBoundary\n",
+    ),
+    (
+        [TINY, "unit f\njmp L\nend\n"],
+        32,
+        5,
+        Kind::NoLabel,
+        "po: line 32, column 5: NoLabel\n",
+    ),
+    (
+        [TINY, "unit f\ncall g 1\n"],
+        32,
+        1,
+        Kind::ArgMissing,
+        "po: line 32, column 1: ArgMissing\n",
+    ),
+    (
+        [TINY, "unit f\nadd\n"],
+        32,
+        1,
+        Kind::StackUnderflow,
+        "po: line 32, column 1: StackUnderflow\n",
+    ),
+    (
+        [HEAD, "insn %0 := #1[5,4] => x\n"],
+        6,
+        14,
+        Kind::Range,
+        "po: line 6, column 14: Range\n",
+    ),
+    (
+        [HEAD, "insn cc := %0 ? %1 clobber cc => x\n"],
+        6,
+        20,
+        Kind::NeverMatches,
+        "po: line 6, column 20: NeverMatches\n",
+    ),
+];
+
+#[test]
+fn finds_faults(rt: HostRuntime) -> Result<(), Fail> {
+    for (parts, line, col, kind, told) in &FAULTS {
+        let ended = run(rt.alloc(), "naive", text_of(rt.alloc(), parts)?, &GOOD)?;
+        let status = Status::BadText {
+            line: *line,
+            col: *col,
+            kind: *kind,
+        };
+        assert_eq!(rt; ended.status, status, "{told}");
+        assert_eq!(rt; ended.sink.kept(), b"".as_slice(), "{told}");
+        assert_eq!(rt; ended.notes.kept(), told.as_bytes(), "{told}");
+    }
+    Ok(())
+}
+
+const FIVE_VALUES: &str =
+    "unit f\ncon 1\ncon 2\ncon 3\ncon 4\ncon 5\nadd\nadd\nadd\nadd\nret\nend\n";
+
+/// An input without a fault that doesn't compile: its status and what is told. Nothing is written.
+const REFUSED: [([&str; 3], Status, &str); 5] = [
+    (
+        [HEAD, SMALL_WITHOUT_ADD, LOAD_AND_ADD],
+        Status::Unrecognised {
+            unit: 0,
+            block: 0,
+            index: 3,
+        },
+        "po: unit 0, block 0, instruction 3: not recognised\n",
+    ),
+    (
+        [
+            TINY_WITHOUT_ADD,
+            "",
+            "unit f\nadl 4\nadl 4\nlod\ncon 1\nadd\nsto\ncon 0\nret\nend\n",
+        ],
+        Status::Unrecognised {
+            unit: 0,
+            block: 0,
+            index: 4,
+        },
+        "po: unit 0, block 0, instruction 4: not recognised\n",
+    ),
+    (
+        [TINY, "", FIVE_VALUES],
+        Status::TooFew {
+            unit: 0,
+            point: 9,
+            needed: 5,
+        },
+        "po: unit 0, point 9: 5 registers needed\n",
+    ),
+    // The second unit is the first with too few registers.
+    (
+        [TINY, "unit e\ncon 0\nret\nend\n", FIVE_VALUES],
+        Status::TooFew {
+            unit: 1,
+            point: 9,
+            needed: 5,
+        },
+        "po: unit 1, point 9: 5 registers needed\n",
+    ),
+    // All units are recognised before any is placed.
+    (
+        [
+            TINY_WITHOUT_ADD,
+            "unit e\nlab a\ncon 1\nret\nend\n",
+            FIVE_VALUES,
+        ],
+        Status::Unrecognised {
+            unit: 1,
+            block: 0,
+            index: 5,
+        },
+        "po: unit 1, block 0, instruction 5: not recognised\n",
+    ),
+];
+
 #[test]
 fn refuses(rt: HostRuntime) -> Result<(), Fail> {
-    let outside = Status::BadText {
-        line: 1,
-        col: 1,
-        kind: Kind::Word,
-    };
-    let told_outside = "po: line 1, column 1: Word\n";
-    let rows: [(&[&str], Status, &str); 4] = [
-        (
-            &[HEAD, LI, LEA_LD, MOV_RET, LOAD_AND_ADD],
-            Status::Unrecognised {
-                unit: 0,
-                block: 0,
-                index: 3,
-            },
-            "po: unit 0, block 0, instruction 3: not recognised\n",
-        ),
-        (
-            &[
-                HEAD,
-                LI,
-                ADD,
-                MOV_RET,
-                "unit f\ncon 1\ncon 2\ncon 3\ncon 4\ncon 5\nadd\nadd\nadd\nadd\nret\nend\n",
-            ],
-            Status::TooFew {
-                unit: 0,
-                point: 9,
-                needed: 5,
-            },
-            "po: unit 0, point 9: 5 registers needed\n",
-        ),
-        (
-            &[HEAD, LI, ADD, MOV_RET, "unit f\ncon 1\nneg\nret\nend\n"],
-            outside,
-            told_outside,
-        ),
-        (&[], outside, told_outside),
-    ];
-    for (parts, status, told) in rows {
+    for (parts, status, told) in &REFUSED {
         let ended = run(rt.alloc(), "naive", text_of(rt.alloc(), parts)?, &GOOD)?;
-        assert_eq!(rt; ended.status, status, "{told}");
+        assert_eq!(rt; ended.status, *status, "{told}");
         assert_eq!(rt; ended.sink.kept(), b"".as_slice(), "{told}");
         assert_eq!(rt; ended.notes.kept(), told.as_bytes(), "{told}");
     }
@@ -189,6 +361,7 @@ fn fails(rt: HostRuntime) -> Result<(), Fail> {
     let rows = [
         ("", &GOOD, usage, ""),
         ("fast", &GOOD, usage, ""),
+        ("slow", &GOOD, usage, ""),
         (
             "naive",
             &slow_sink,
@@ -203,7 +376,7 @@ fn fails(rt: HostRuntime) -> Result<(), Fail> {
             "f:\n  lea r0,4\n  ld r",
         ),
     ];
-    let parts = [HEAD, LI, LEA_LD, ADD, MOV_RET, LOAD_AND_ADD];
+    let parts = [HEAD, SMALL, LOAD_AND_ADD];
     for (word, streams, status, kept) in rows {
         let ended = run(rt.alloc(), word, text_of(rt.alloc(), &parts)?, streams)?;
         assert_eq!(rt; ended.status, status, "{word} {kept}");
@@ -232,57 +405,40 @@ fn is_too_long(rt: HostRuntime) -> Result<(), Fail> {
     Ok(())
 }
 
-/// Texts that are just outside the grammar, each in one place.
-const OUTSIDE: [[&str; 3]; 15] = [
-    [
-        "machine tiny\nframe fp\nresult rv\nargs a0 a1 a2 a3 a4\nregs r0\n",
-        MOV_RET,
-        CONSTANT,
-    ],
-    [
-        "machine tiny\nframe fp\nresult rv\nargs a0 a1 a2 a3\nregs r0 r0\n",
-        MOV_RET,
-        CONSTANT,
-    ],
-    [
-        "machine tiny\nframe fp\nresult rv\nargs a0 a1 a2 a3\nregs\n",
-        MOV_RET,
-        CONSTANT,
-    ],
-    [
-        "machine tiny\nframe fp\nresult fp\nargs a0 a1 a2 a3\nregs r0\n",
-        MOV_RET,
-        CONSTANT,
-    ],
-    [HEAD, "insn %0 := %1 => mov %0,%2\nend\n", CONSTANT],
-    [HEAD, "insn ret => ret %\nend\n", CONSTANT],
-    [HEAD, "insn ret  => ret\nend\n", CONSTANT],
-    [HEAD, MOV_RET, "unit f\ncon 007\nret\nend\n"],
-    [HEAD, MOV_RET, "unit f\ncon -0\nret\nend\n"],
-    [HEAD, MOV_RET, "unit f\ncon 4294967295\nret\nend\n"],
-    [HEAD, MOV_RET, "unit f\ncon  1\nret\nend\n"],
-    [HEAD, MOV_RET, "unit f\ncon 1\nret\ncon 2\nend\n"],
-    [HEAD, MOV_RET, "unit f\nadd\nret\nend\n"],
-    [HEAD, MOV_RET, "unit f\ncon 1\nret\nend"],
-    [HEAD, MOV_RET, "unit f\ncon 1\nret\nend\n\n"],
-];
-
-/// Only the whole printed form of a description and a unit is read.
+/// As many values at once as the largest machine has registers.
 #[test]
-fn is_outside(rt: HostRuntime) -> Result<(), Fail> {
-    let outside = Status::BadText {
-        line: 1,
-        col: 1,
-        kind: Kind::Word,
-    };
-    for parts in &OUTSIDE {
-        let ended = run(rt.alloc(), "naive", text_of(rt.alloc(), parts)?, &GOOD)?;
-        assert_eq!(rt;
-            ended.status,
-            outside,
-            "{} {} {}",
-            parts[0], parts[1], parts[2]
-        );
+fn fills_the_largest_machine(rt: HostRuntime) -> Result<(), Fail> {
+    let mut text = text_of(
+        rt.alloc(),
+        &["machine m\nframe fp\nresult rv\nargs a0 a1 a2 a3\nregs"],
+    )?;
+    for k in 0..64 {
+        let name = format!(in rt.alloc(); " r{k}")?;
+        text.extend_from_slice(name.as_bytes())?;
     }
+    text.extend_from_slice(b"\n")?;
+    text.extend_from_slice(SMALL.as_bytes())?;
+    text.extend_from_slice(b"unit f\n")?;
+    for _ in 0..64 {
+        text.extend_from_slice(b"con 1\n")?;
+    }
+    for _ in 0..63 {
+        text.extend_from_slice(b"add\n")?;
+    }
+    text.extend_from_slice(b"ret\nend\n")?;
+    let wide = Streams {
+        most: 4096,
+        read_fails: 0,
+        write_fails: 0,
+        room: 10000,
+    };
+    let ended = run(rt.alloc(), "naive", text, &wide)?;
+    assert_eq!(rt; ended.status, Status::Done);
+    assert!(rt;
+        ended
+            .sink
+            .kept()
+            .ends_with(b"\n  add r0,r0,r1\n  mov rv,r0\n  ret\n")
+    );
     Ok(())
 }
