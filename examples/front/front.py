@@ -38,25 +38,26 @@ SIGNS = {"-": "neg", "~": "not"}
 BRANCH_IF_NOT = {"==": "bne", "!=": "beq", "<": "bge", "<=": "bgt", ">": "ble", ">=": "blt"}
 
 
-def tokens_of(text):
-    """The pairs (token, line) of a text, with an empty token at its end."""
-    found, place, line = [], 0, 1
+def tokens_of(path):
+    """The pairs (token, file and line) of a file."""
+    text, found, place, line = pathlib.Path(path).read_text("ascii"), [], 0, 1
     while place < len(text):
         match = TOKEN.match(text, place)
         if not match:
-            sys.exit(f"front: line {line}: unknown mark {text[place]!r}")
+            sys.exit(f"front: {path}:{line}: unknown mark {text[place]!r}")
         if match.group(1):
-            found.append((match.group(1), line))
+            found.append((match.group(1), f"{path}:{line}"))
         line += match.group(0).count("\n")
         place = match.end()
-    return found + [("", line)]
+    return found
 
 
 class Reader:
     """Takes tokens, and reads expressions into tuples with their kind first."""
 
-    def __init__(self, text):
-        self.tokens, self.place = tokens_of(text), 0
+    def __init__(self, paths):
+        self.tokens = [token for path in paths for token in tokens_of(path)] + [("", "the end")]
+        self.place = 0
 
     def peek(self):
         return self.tokens[self.place][0]
@@ -66,7 +67,7 @@ class Reader:
         return self.tokens[self.place - 1][0]
 
     def refuse(self, message):
-        sys.exit(f"front: line {self.tokens[self.place][1]}: {message}")
+        sys.exit(f"front: {self.tokens[self.place][1]}: {message}")
 
     def take(self, token):
         if not self.accept(token):
@@ -127,8 +128,8 @@ class Reader:
 class Compiler(Reader):
     """Makes the lines of stack code while it reads a program."""
 
-    def __init__(self, text):
-        super().__init__(text)
+    def __init__(self, paths):
+        super().__init__(paths)
         self.lines, self.globals = [], []
         self.labels, self.words = 0, 0      # how many labels there are; how many words of the frame are taken
         self.places = {}                    # by name: the operation that gives the address, and the size of an array
@@ -291,7 +292,7 @@ class Compiler(Reader):
 
 def main(words):
     data = words[:1] == ["--data"]
-    compiler = Compiler("".join(pathlib.Path(word).read_text("ascii") for word in words[data:]))
+    compiler = Compiler(words[data:])
     compiler.program()
     print("\n".join(compiler.data() if data else compiler.lines))
 
