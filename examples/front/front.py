@@ -56,8 +56,7 @@ class Reader:
     """Takes tokens, and reads expressions into tuples with their kind first."""
 
     def __init__(self, paths):
-        self.tokens = [token for path in paths for token in tokens_of(path)] + [("", "the end")]
-        self.place = 0
+        self.tokens, self.place = [token for path in paths for token in tokens_of(path)] + [("", "the end")], 0
 
     def peek(self):
         return self.tokens[self.place][0]
