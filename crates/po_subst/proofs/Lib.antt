@@ -7,3 +7,5 @@ pub mod Kept
 pub mod InOrder
 pub mod ForwardFollows
 pub mod JoinFollows
+pub mod Lookups
+pub mod Alike
