@@ -9,3 +9,5 @@ pub mod ForwardFollows
 pub mod JoinFollows
 pub mod Lookups
 pub mod Alike
+pub mod Joint
+pub mod Keeping
