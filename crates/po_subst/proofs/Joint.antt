@@ -279,7 +279,7 @@ module _ (live : Register → Bool) (cc_live : Bool) where
       single_beside (Ends e ∷ ms) h = single_beside ms h.1
 
 -- a set of a register to itself
-idle_right : (r : Register) (t : Word) → is_idle {S = Sym} plainly (SetTo r t) ≡ true → t ≡ Leaf (InReg r)
+pub idle_right : (r : Register) (t : Word) → is_idle {S = Sym} plainly (SetTo r t) ≡ true → t ≡ Leaf (InReg r)
 idle_right r (Leaf l) e = ap Leaf (one_place l (InReg r) e)
 idle_right r (Const c) e = absurd (false≢true e)
 idle_right r (Read x) e = absurd (false≢true e)

@@ -1,5 +1,5 @@
 -- The list that two instructions come to does what they do.
-use Rattle.std.proofs.Common.{◌≡◌, ℕ, Bool, true, false, List, [], ◌∷◌, ◌++◌, refl, sym, ◌∙◌, ap, subst}
+use Rattle.std.proofs.Common.{◌≡◌, ℕ, Bool, true, false, List, [], ◌∷◌, ◌++◌, refl, sym, ◌∙◌, ap, subst, lit<}
 use Rattle.std.specs.Prelude.{◌==◌, not, ◌||◌, ◌&&◌, is_some, if◌then◌else◌, Option, Some, None, filter}
 use Rattle.std.specs.Option.{option_or}
 use Rattle.std.proofs.Math.Path.{fun_ext}
@@ -210,6 +210,13 @@ module _ (s : State) (fits : IsState s) where
         (words_filter (is_wanted live cc_live) b (words_of b h.each))
         (none_filter is_away (is_wanted live cc_live) b j.no_away)
         (single_filter (is_wanted live cc_live) b (single_of b h.pairs)))
+
+-- a state in which all is 0
+abbrev pub zeros : State
+zeros = record { place = λ p. 0; memory = λ c. 0; cc = None }
+
+pub zeros_fit : IsState zeros
+zeros_fit = record { places = λ p. lit< tt; cells = λ c. lit< tt }
 
 pub joined_keeps : (live : Register → Bool) (cc_live : Bool) (a b : List Step) → WellFormed a → WellFormed b → (s : State) → IsState s → OfList (joined words plainly live cc_live a b).got (λ j. Keeps live cc_live a b j s)
 joined_keeps live cc_live a b h i s fits =

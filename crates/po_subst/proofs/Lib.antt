@@ -11,3 +11,5 @@ pub mod Lookups
 pub mod Alike
 pub mod Joint
 pub mod Keeping
+pub mod Carried
+pub mod Reading

@@ -25,3 +25,18 @@ abbrev pub KeepsEffect : Type 0
 KeepsEffect =
     (live : Register → Bool) (cc_live : Bool) (a b : List Step) → WellFormed a → WellFormed b → (s : State) → IsState s
     → OfList (joined words plainly live cc_live a b).got (λ j. Keeps live cc_live a b j s)
+
+-- whether v is live, where these registers are and cc is
+abbrev pub lives : (Register → Bool) → Bool → Var → Bool
+lives live cc_live (Reg r) = live r
+lives live cc_live Cc = cc_live
+
+-- what is live before an instruction, by what is live after it
+abbrev pub live_before : List Step → (Var → Bool) → Var → Bool
+live_before x after v = reads x v || (not (sets x v) && after v)
+
+-- what is live before the list was live before A and B
+abbrev pub MakesNothingLive : Type 0
+MakesNothingLive =
+    (live : Register → Bool) (cc_live : Bool) (a b : List Step) → WellFormed a → WellFormed b → (v : Var)
+    → OfList (joined words plainly live cc_live a b).got (λ j. live_before j (lives live cc_live) v ≡ true → live_before a (live_before b (lives live cc_live)) v ≡ true)
