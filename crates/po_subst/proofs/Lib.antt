@@ -13,3 +13,4 @@ pub mod Joint
 pub mod Keeping
 pub mod Carried
 pub mod Reading
+pub mod Forms

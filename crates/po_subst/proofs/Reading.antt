@@ -33,14 +33,14 @@ use Rattle.po_subst.proofs.Keeping.{zeros, zeros_fit, like_first, like_second}
 use Rattle.po_subst.proofs.Carried.{Carries, EachCarries, simplified_carries, forwarded_carries, carries_append, carries_filter}
 
 -- one or the other is true
-by_either : {G : Type 0} (x y : Bool) → (x || y) ≡ true → (x ≡ true → G) → (y ≡ true → G) → G
+pub by_either : {G : Type 0} (x y : Bool) → (x || y) ≡ true → (x ≡ true → G) → (y ≡ true → G) → G
 by_either true y e f g = f refl
 by_either false y e f g = g e
 
-left_true : (x y : Bool) → x ≡ true → (x || y) ≡ true
+pub left_true : (x y : Bool) → x ≡ true → (x || y) ≡ true
 left_true x y e = rw e refl
 
-right_true : (x y : Bool) → y ≡ true → (x || y) ≡ true
+pub right_true : (x y : Bool) → y ≡ true → (x || y) ≡ true
 right_true true y e = refl
 right_true false y e = e
 
@@ -102,7 +102,7 @@ module _ (p : Step → Bool) where
       go false i ih = right_true (p m) (list_any p ms) (ih i)
 
 -- what a list doesn't set, none of its moves sets
-unset_right : (r : Register) (ms : List Step) → sets ms (Reg r) ≡ false → right_at plainly (InReg r) ms ≡ None
+pub unset_right : (r : Register) (ms : List Step) → sets ms (Reg r) ≡ false → right_at plainly (InReg r) ms ≡ None
 unset_right r [] e = refl
 unset_right r (SetTo q t ∷ ms) e = go (reg_eq r q) (reg_swap q r) (unset_right r ms)
   where
@@ -113,7 +113,7 @@ unset_right r (CcTo t u ∷ ms) e = unset_right r ms e
 unset_right r (StoreTo t u ∷ ms) e = unset_right r ms e
 unset_right r (Ends x ∷ ms) e = unset_right r ms (or_false (move_sets (Ends x) (Reg r)) (sets ms (Reg r)) e).1
 
-unset_cc : (ms : List Step) → sets ms Cc ≡ false → cc_of ms ≡ None
+pub unset_cc : (ms : List Step) → sets ms Cc ≡ false → cc_of ms ≡ None
 unset_cc [] e = refl
 unset_cc (SetTo q t ∷ ms) e = unset_cc ms e
 unset_cc (CcTo t u ∷ ms) e = absurd (true≢false e)
@@ -131,7 +131,7 @@ ending_unset Return v n = refl
 neither : (x y : Bool) → x ≡ false → y ≡ false → (x || y) ≡ false
 neither x y e i = rw (e, i) refl
 
-right_unset : (r : Register) (ms : List Step) → list_any is_away ms ≡ false → right_at plainly (InReg r) ms ≡ None → sets ms (Reg r) ≡ false
+pub right_unset : (r : Register) (ms : List Step) → list_any is_away ms ≡ false → right_at plainly (InReg r) ms ≡ None → sets ms (Reg r) ≡ false
 right_unset r [] n e = refl
 right_unset r (SetTo q t ∷ ms) n e = go (reg_eq r q) (reg_swap q r) e (right_unset r ms n)
   where
@@ -142,7 +142,7 @@ right_unset r (CcTo t u ∷ ms) n e = right_unset r ms n e
 right_unset r (StoreTo t u ∷ ms) n e = right_unset r ms n e
 right_unset r (Ends x ∷ ms) n e = let k = or_false (is_away {K = ℕ} {L = Place} {R = Register} {S = Sym} (Ends x)) (list_any is_away ms) n in neither (move_sets (Ends x) (Reg r)) (sets ms (Reg r)) (ending_unset x (Reg r) k.0) (right_unset r ms k.1 e)
 
-cc_unset : (ms : List Step) → list_any is_away ms ≡ false → cc_of ms ≡ None → sets ms Cc ≡ false
+pub cc_unset : (ms : List Step) → list_any is_away ms ≡ false → cc_of ms ≡ None → sets ms Cc ≡ false
 cc_unset [] n e = refl
 cc_unset (SetTo q t ∷ ms) n e = cc_unset ms n e
 cc_unset (CcTo t u ∷ ms) n e = absurd (cc)
@@ -243,7 +243,7 @@ both_none : {X : Type 0} (o p : Option X) → option_or o p ≡ None → (o ≡ 
 both_none None p e = (refl, e)
 both_none (Some x) p e = absurd (cc)
 
-none_alike : {X Y : Type 0} (o : Option X) (p : Option Y) → is_some p ≡ is_some o → p ≡ None → o ≡ None
+pub none_alike : {X Y : Type 0} (o : Option X) (p : Option Y) → is_some p ≡ is_some o → p ≡ None → o ≡ None
 none_alike {X = X} {Y = Y} o p e f = none_of o (sym e ∙ ap (λ (x : Option Y). is_some x) f)
 
 -- neither A nor B sets what is live and the two together don't set

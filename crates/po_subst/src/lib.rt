@@ -20,4 +20,4 @@ mod transfers;
 pub use addresses::alias;
 pub use forwarding::forward;
 pub use joining::{Joined, together};
-pub use laws::{keeps_effect, makes_nothing_live};
+pub use laws::{keeps_effect, keeps_form, makes_nothing_live};
