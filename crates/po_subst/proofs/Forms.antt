@@ -212,21 +212,25 @@ module _ (L : List Label) (S : List Sym) where
   moves_names : (ms : List Step) → All WellFormedMove ms → list_any is_away ms ≡ false → ((l : Label) → Contains (labels_in ms) l → Contains L l) → ((s : Sym) → Contains (syms_in ms) s → Contains S s) → Names L S ms
   moves_names [] h n kl ks = tt
   moves_names (SetTo r t ∷ ms) h n kl ks =
-      let w = All-head WellFormedMove (SetTo r t) ms h in
-      (((w.0, w.1), term_names t w.2.places (λ s i. ks s (Contains-append_left (term_syms t) (syms_in ms) s i))),
-      moves_names ms (All-tail WellFormedMove (SetTo r t) ms h) n kl (λ s i. ks s (Contains-append_right (term_syms t) (syms_in ms) s i)))
+      let w = All-head WellFormedMove (SetTo r t) ms h in (
+        ((w.0, w.1), term_names t w.2.places (λ s i. ks s (Contains-append_left (term_syms t) (syms_in ms) s i))),
+        moves_names ms (All-tail WellFormedMove (SetTo r t) ms h) n kl (λ s i. ks s (Contains-append_right (term_syms t) (syms_in ms) s i)),
+      )
   moves_names (CcTo t u ∷ ms) h n kl ks =
-      let w = All-head WellFormedMove (CcTo t u) ms h in
-      (two_names t u w.0.places w.1.places (λ s i. ks s (Contains-append_left (term_syms t ++ term_syms u) (syms_in ms) s i)),
-      moves_names ms (All-tail WellFormedMove (CcTo t u) ms h) n kl (λ s i. ks s (Contains-append_right (term_syms t ++ term_syms u) (syms_in ms) s i)))
+      let w = All-head WellFormedMove (CcTo t u) ms h in (
+        two_names t u w.0.places w.1.places (λ s i. ks s (Contains-append_left (term_syms t ++ term_syms u) (syms_in ms) s i)),
+        moves_names ms (All-tail WellFormedMove (CcTo t u) ms h) n kl (λ s i. ks s (Contains-append_right (term_syms t ++ term_syms u) (syms_in ms) s i)),
+      )
   moves_names (StoreTo t u ∷ ms) h n kl ks =
-      let w = All-head WellFormedMove (StoreTo t u) ms h in
-      (two_names t u w.0.places w.1.places (λ s i. ks s (Contains-append_left (term_syms t ++ term_syms u) (syms_in ms) s i)),
-      moves_names ms (All-tail WellFormedMove (StoreTo t u) ms h) n kl (λ s i. ks s (Contains-append_right (term_syms t ++ term_syms u) (syms_in ms) s i)))
+      let w = All-head WellFormedMove (StoreTo t u) ms h in (
+        two_names t u w.0.places w.1.places (λ s i. ks s (Contains-append_left (term_syms t ++ term_syms u) (syms_in ms) s i)),
+        moves_names ms (All-tail WellFormedMove (StoreTo t u) ms h) n kl (λ s i. ks s (Contains-append_right (term_syms t ++ term_syms u) (syms_in ms) s i)),
+      )
   moves_names (Ends x ∷ ms) h n kl ks =
-      let k = or_false (is_away {K = ℕ} {L = Place} {R = Register} {S = Sym} (Ends x)) (list_any is_away ms) n in
-      (ending_names x (All-head WellFormedMove (Ends x) ms h) k.0 (λ l i. kl l (Contains-append_left (ending_labels x) (labels_in ms) l i)) (λ s i. ks s (Contains-append_left (ending_syms x) (syms_in ms) s i)),
-      moves_names ms (All-tail WellFormedMove (Ends x) ms h) k.1 (λ l i. kl l (Contains-append_right (ending_labels x) (labels_in ms) l i)) (λ s i. ks s (Contains-append_right (ending_syms x) (syms_in ms) s i)))
+      let k = or_false (is_away {K = ℕ} {L = Place} {R = Register} {S = Sym} (Ends x)) (list_any is_away ms) n in (
+        ending_names x (All-head WellFormedMove (Ends x) ms h) k.0 (λ l i. kl l (Contains-append_left (ending_labels x) (labels_in ms) l i)) (λ s i. ks s (Contains-append_left (ending_syms x) (syms_in ms) s i)),
+        moves_names ms (All-tail WellFormedMove (Ends x) ms h) k.1 (λ l i. kl l (Contains-append_right (ending_labels x) (labels_in ms) l i)) (λ s i. ks s (Contains-append_right (ending_syms x) (syms_in ms) s i)),
+      )
 
   -- and what has this is in range, and has its labels and symbols among these
   places_of : (t : Word) → EachLeaf (InPlace S) t → EachLeaf IsPlace t
