@@ -29,7 +29,7 @@ module _ {K L R S : Type 0} where
   if_fit ms None = Kept
   if_fit ms (Some found) = AsOne ms
 
-module _ {K L R S : Type 0} (k : Kind K) (same : Sameness L R) (leaves : Leaves L R S) (m : Machine) where
+module _ {K L R S : Type 0} (k : Kind K) (leaves : Leaves L R S) (m : Machine) where
   -- what was joined, once the machine's entries were tried
   abbrev pub recognised : Bool → Joint K L R S → Met K (Combination K L R S)
   recognised cc_live joint.NotJoined = give Kept
@@ -37,12 +37,12 @@ module _ {K L R S : Type 0} (k : Kind K) (same : Sameness L R) (leaves : Leaves 
   recognised cc_live (joint.AsOne ms) = and_then (first_fit leaves k cc_live m.entries 0 ms) (λ found. give (if_fit ms found))
 
   -- what becomes of A and B, where `live` says of each register whether it is live after B
-  abbrev pub combined : (R → Bool) → Bool → List (Move K L R S) → List (Move K L R S) → Met K (Combination K L R S)
-  combined live cc_live a b = and_then (joined k same live cc_live a b) (recognised cc_live)
+  abbrev pub combined : Sameness L R → (R → Bool) → Bool → List (Move K L R S) → List (Move K L R S) → Met K (Combination K L R S)
+  combined same live cc_live a b = and_then (joined k same live cc_live a b) (recognised cc_live)
 
 -- what becomes of a pair of a code
 abbrev pub combination : Machine → PlainPair → Combination ℕ Place Register Sym
-combination m p = (combined words plainly places m (is_live_after p) p.cc p.a p.b).got
+combination m p = (combined words places m plainly (is_live_after p) p.cc p.a p.b).got
 
 -- an answer as plain data
 abbrev pub combination_of : Outcome → Combination ℕ Place Register Sym
