@@ -1,15 +1,14 @@
 -- What a set of live registers, and whether cc is live, says of each.
 use Rattle.std.specs.Prelude.{ℕ, zero, suc, Bool, false, List, [], ◌∷◌}
-use Rattle.std.specs.List.{list_any}
 use Rattle.std.specs.Global.{Vec}
-use Rattle.po_term.specs.Simplified.{reg_eq}
 use Rattle.po_model.specs.declared.pair.Live.{Live}
+use Rattle.po_model.specs.LiveSet.{is_live}
 use Rattle.po_model.specs.declared.var.Var.{Var}
 use Rattle.po_model.specs.declared.var.Var.TheVariants.{Reg, Cc}
 
 -- whether v is live
 abbrev pub holds : Live → Var → Bool
-holds l (Reg r) = list_any (reg_eq r) l.regs.keys
+holds l (Reg r) = is_live l r
 holds l Cc = l.cc
 
 -- whether v is in the set at a place of a list

@@ -88,7 +88,7 @@ agree_one (Binary o x y) (Binary p u v) e =
     ap (λ q. Binary q x y) (one_bin o p g.0) ∙ ap (λ z. Binary p z y) (agree_one x u i.0) ∙ ap (λ z. Binary p u z) (agree_one y v i.1)
 agree_one a b e = cc
 
-reg_self : (r : Register) → reg_eq r r ≡ true
+pub reg_self : (r : Register) → reg_eq r r ≡ true
 reg_self (Virt m) = grind arith
 reg_self Fp = refl
 reg_self Rv = refl

@@ -19,7 +19,7 @@ filter_swap p q (m ∷ ms) = go (p m) refl (q m) refl (filter_swap p q ms)
     go false d true e ih = rw (d) ih
     go false d false e ih = ih
 
-listing_moving : (ms : List Step) → listing (kinds_of ms) ≡ filter is_moving (in_order ms)
+pub listing_moving : (ms : List Step) → listing (kinds_of ms) ≡ filter is_moving (in_order ms)
 listing_moving ms =
     rw (filter_swap is_set is_moving ms, filter_swap is_cc is_moving ms, filter_swap is_store is_moving ms, filter_swap is_control is_moving ms)
     (sym (filter-append is_moving (filter is_set ms ++ filter is_cc ms ++ filter is_store ms) (filter is_control ms)

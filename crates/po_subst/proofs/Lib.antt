@@ -7,3 +7,10 @@ pub mod Kept
 pub mod InOrder
 pub mod ForwardFollows
 pub mod JoinFollows
+pub mod Lookups
+pub mod Alike
+pub mod Joint
+pub mod Keeping
+pub mod Carried
+pub mod Reading
+pub mod Forms

@@ -2,3 +2,4 @@ pub mod Seen
 pub mod Found
 pub mod Order
 pub mod JoinedMoves
+pub mod KeepsEffect

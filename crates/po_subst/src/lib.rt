@@ -10,6 +10,7 @@ mod addresses;
 mod choosing;
 mod forwarding;
 mod joining;
+mod laws;
 mod order;
 mod parts;
 #[cfg(test)]
@@ -19,3 +20,4 @@ mod transfers;
 pub use addresses::alias;
 pub use forwarding::forward;
 pub use joining::{Joined, together};
+pub use laws::{keeps_effect, keeps_form, makes_nothing_live};
