@@ -2,3 +2,4 @@ pub mod Lists
 pub mod Walks
 pub mod Agreed
 pub mod Clobbers
+pub mod Limits

@@ -1,3 +1,4 @@
 pub mod Operands
+pub mod Limits
 pub mod Taken
 pub mod Filled

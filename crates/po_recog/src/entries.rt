@@ -9,6 +9,7 @@ ghost use Rattle.po_term.specs.Kinds.{words};
 ghost use Rattle.po_model.specs.Fit.{places, entry_fit, first_fit, fit};
 ghost use Rattle.po_recog.specs.Operands.{operands_in, fit_from, fit_of};
 ghost use Rattle.po_recog.specs.Filled.{filled_of};
+ghost use Rattle.po_recog.specs.Limits.{FitsWithinLimits};
 
 use crate::heads::same_heads;
 use crate::walk::takes_moves;
@@ -87,4 +88,9 @@ pub fn recognise(
 /// A law, and no work: what fits while `cc` is live fits while it is dead too, maybe an earlier entry.
 pub fn fits_while_cc_is_dead()
     ensures { (m : Machine) (ms : List (Move ℕ Place Reg Sym)) → IsSome (fit m true ms) → IsSome (fit m false ms) }
+{}
+
+/// A law, and no work: what an entry of a machine fits is within the limits of instructions.
+pub fn fits_within_limits()
+    ensures { FitsWithinLimits }
 {}

@@ -1,0 +1,8 @@
+//! Slow combination: what becomes of two instructions on a machine (docs/OPTIMISER.md, "Combination").
+//!
+//! `pair` answers for one pair: the two are joined (`po_subst`), and the joint list has to fit an entry of the machine (`po_recog`).
+#![tactic(auto)]
+
+mod pair;
+
+pub use pair::slow_pair;

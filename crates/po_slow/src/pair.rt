@@ -1,0 +1,52 @@
+//! What becomes of a pair: both stay, nothing is left of them, or one instruction stands in their place.
+ghost use Rattle.std.specs.Prelude.{◌≡◌, ◌<◌, ◌^◌, ◌+◌, length, IfOk};
+ghost use Rattle.po_term.specs.Moves.{instr_of};
+ghost use Rattle.po_term.specs.Kinds.{words};
+ghost use Rattle.po_model.specs.Fit.{places};
+ghost use Rattle.po_model.specs.Joined.{AsOne};
+ghost use Rattle.po_model.specs.Pairs.{pair_of};
+ghost use Rattle.po_model.specs.Combined.{recognised, combination, combination_of};
+
+use po_model::{Machine, Outcome, Pair, Steps};
+use po_recog::recognise;
+use po_subst::{Joined, together};
+use po_term::Instr;
+use po_word::OutOfMemory;
+use std::alloc::Global;
+use std::sync::ledger::Ledger;
+
+/// The instruction in the place of the pair, where an entry fits it.
+fn if_recognised(
+    alloc: Global,
+    m: &Machine,
+    i: Instr,
+    cc_live: bool,
+) -> Result<Outcome, OutOfMemory>
+    requires { length m.now.entries < 2 ^ 32 }
+    ensures { IfOk result (λ o. combination_of o ≡ (recognised words places m.now cc_live (AsOne (instr_of i))).got) }
+{
+    match recognise(alloc, m, i.xs.as_slice(), cc_live)? {
+        Some(_) => Ok(Outcome::One(i)),
+        None => Ok(Outcome::Keep),
+    }
+}
+
+/// What becomes of a pair on the machine (docs/OPTIMISER.md, "Combination"). One step is counted, whatever the answer. It fails only
+/// where memory is refused.
+pub fn slow_pair<L: Ledger>(
+    alloc: Global,
+    m: &Machine,
+    p: &Pair,
+    steps: &mut Steps<L>,
+) -> Result<Outcome, OutOfMemory>
+    requires { length m.now.entries < 2 ^ 32 }
+    ensures combines { IfOk result (λ o. combination_of o ≡ combination m.now (pair_of p.now)) }
+    ensures ticks { steps.new ≡ steps.old + 1 }
+{
+    steps.tick();
+    match together(alloc, p)? {
+        Joined::Not => Ok(Outcome::Keep),
+        Joined::Empty => Ok(Outcome::Nothing),
+        Joined::List(i) => if_recognised(alloc, m, i, p.live.cc),
+    }
+}
