@@ -10,3 +10,5 @@ pub mod Moves
 pub mod Kept
 pub mod Pieces
 pub mod Allowed
+pub mod Noted
+pub mod AgainParts

@@ -7,6 +7,7 @@
 #![tactic(auto)]
 
 mod begun;
+mod laws;
 mod list;
 mod pair;
 mod print;
@@ -17,5 +18,6 @@ mod tests;
 mod transfer;
 mod words;
 
+pub use laws::printed_entry_again;
 pub use print::print_entry;
 pub use read::read_entry;
