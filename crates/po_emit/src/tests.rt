@@ -5,7 +5,9 @@ ghost use Rattle.po_model.specs.Blocks.{block_of, code_of, EndsLast, IsCode};
 use self::Step::{Address, Branch, Compare, Con, Copy, Ret};
 use crate::emit;
 use po_assign::Placed;
-use po_model::{Block, Code, Entry, Machine, PatCond, PatReg, PatTerm, PatTransfer, Piece, UnitCode};
+use po_model::{
+    Block, Code, Entry, Machine, PatCond, PatReg, PatTerm, PatTransfer, Piece, UnitCode,
+};
 use po_name::Name;
 use po_term::{Cond, Instr, Label, Reg, Sym, Term, Transfer};
 use po_word::{OutOfMemory, Rel};
@@ -60,7 +62,8 @@ const STEPS: [(Option<Label>, Step); 7] = [
 
 const REGS: [(u32, u32); 2] = [(5, 1), (6, 0)];
 
-const TEXT: &str = "before\nf:\n  cmp r1,0\n  li r0,-7\nf.a:\n  beq f.b\n  zap r1,-2147483648\nf.b:\n  la r0,g\n  mov rv,r0\n  ret\n";
+const TEXT: &str =
+    "before\nf:\n  cmp r1,0\n  li r0,-7\nf.a:\n  beq f.b\n  zap r1,-2147483648\nf.b:\n  la r0,g\n  mov rv,r0\n  ret\n";
 
 fn pattern(number: usize) -> PatTransfer {
     match number {

@@ -80,12 +80,7 @@ fn text_of(alloc: Global, m: &Machine, p: &Placed) -> Result<Vec<u8>, OutOfMemor
 /// Writes the assembly of a unit at the end of `out`: the line `NAME:`, for each block the line `NAME.LABEL:` where it has a label, and
 /// for each instruction the filled template of the first entry that it fits before placement. After `OutOfMemory` `out` is as before
 /// (docs/DESCRIPTION.md, "Templates").
-pub fn emit(
-    alloc: Global,
-    m: &Machine,
-    p: &Placed,
-    out: &mut Vec<u8>,
-) -> Result<(), OutOfMemory>
+pub fn emit(alloc: Global, m: &Machine, p: &Placed, out: &mut Vec<u8>) -> Result<(), OutOfMemory>
     requires code { IsCode (code_of p.now.unit.code) }
     requires entries { length m.now.entries < 2 ^ 32 }
     ensures ok { OnOk result ((text : List ℕ) × IsAssembly m.now p.now.regs.items (unit_of p.now.unit) text × (out.new.items ≡ out.old.items ++ text)) }
