@@ -186,3 +186,7 @@ module _ (m : Machine) (p : PlainPair) (h : WellFormedPair p) where
         (λ j. live_before j live v ≡ true → live_before p.a (live_before p.b live) v ≡ true) come_to
         (λ j n law. live_here live l v j n law) stays (joined_makes_nothing (is_live_after p) p.cc p.a p.b h.first h.second v));
   }
+
+-- the same of an answer that is the combination
+pub answer_keeps : (m : Machine) (p : PlainPair) (answer : Answer) → answer ≡ combination m p → WellFormedPair p → KeepsEffect m p answer
+answer_keeps m p answer e h = subst (λ (x : Answer). KeepsEffect m p x) (sym e) (keeps_effect m p h)
