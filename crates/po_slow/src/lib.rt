@@ -4,7 +4,11 @@
 #![tactic(auto)]
 
 mod laws;
+#[cfg(test)]
+mod machine;
 mod pair;
+#[cfg(test)]
+mod tests;
 
 pub use laws::combination_keeps_effect;
 pub use pair::slow_pair;
