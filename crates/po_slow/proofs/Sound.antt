@@ -1,6 +1,6 @@
 -- A combination keeps the effect: what holds of the joint list, and what recognition adds to it.
-use Rattle.std.proofs.Common.{◌≡◌, ℕ, zero, suc, Bool, true, false, List, [], ◌∷◌, ◌++◌, length, get_or, Option, Some, None, refl, sym, ap, ◌∙◌, subst, arith}
-use Rattle.std.specs.Prelude.{All, Contains, IsTrue, IsSome, is_some, not, ◌||◌, ◌&&◌, if◌then◌else◌, ⊤}
+use Rattle.std.proofs.Common.{◌≡◌, ℕ, zero, suc, Bool, true, false, List, [], ◌∷◌, ◌++◌, get_or, Option, Some, None, refl, sym, ap, ◌∙◌, subst, arith}
+use Rattle.std.specs.Prelude.{All, Contains, IsTrue, IsSome, is_some, not, ◌||◌, ◌&&◌}
 use Rattle.std.specs.List.{list_any}
 use Rattle.std.specs.Option.{option_map}
 use Rattle.std.proofs.lemmas.Bool.{false≢true, true≢false}
@@ -17,7 +17,7 @@ use Rattle.po_model.specs.declared.var.Var.{Var}
 use Rattle.po_model.specs.declared.var.Var.TheVariants.{Reg, Cc}
 use Rattle.po_model.specs.Blocks.{PlainInstr}
 use Rattle.po_model.specs.Parts.{plainly, right_at, ending_of}
-use Rattle.po_model.specs.Effect.{Control, Done, after, goes, effect}
+use Rattle.po_model.specs.Effect.{Control, after, goes, effect}
 use Rattle.po_model.specs.Keeps.{Keeps}
 use Rattle.po_model.specs.LiveAfter.{reads, sets}
 use Rattle.po_model.specs.Joined.{Joint, NotJoined, NothingLeft, is_control, is_away, joined}
@@ -33,9 +33,9 @@ use Rattle.po_subst.proofs.Agreeing.{one_register}
 use Rattle.po_subst.proofs.Alike.{or_false}
 use Rattle.po_subst.proofs.Joint.{joined_where}
 use Rattle.po_subst.proofs.Keeping.{zeros, zeros_fit, joined_keeps}
-use Rattle.po_subst.proofs.Reading.{by_either, right_true, right_unset, stays_here, joined_makes_nothing}
+use Rattle.po_subst.proofs.Reading.{right_unset, stays_here, joined_makes_nothing}
 use Rattle.po_subst.proofs.Forms.{joined_form}
-use Rattle.po_slow.specs.KeepsEffect.{Answer, InPlace, SameEnd, SameEffect, then_effect, effect_of_both, IsLiveAfter, IsFormed, KeepsEffect}
+use Rattle.po_slow.specs.KeepsEffect.{Answer, InPlace, SameEffect, effect_of_both, IsLiveAfter, IsFormed, KeepsEffect}
 
 abbrev Joining : Type 0
 Joining = Joint ℕ Place Register Sym

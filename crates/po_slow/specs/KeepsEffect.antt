@@ -1,5 +1,5 @@
 -- A combination keeps the effect: what is promised of the list of transfers that stands in the place of a pair A, B.
-use Rattle.std.specs.Prelude.{ℕ, ◌≡◌, Bool, true, false, ◌||◌, List, [], ◌++◌, All, Contains, Option, Some, None, is_some, ⊤}
+use Rattle.std.specs.Prelude.{ℕ, ◌≡◌, Bool, true, false, ◌||◌, [], ◌++◌, All, Contains, Option, Some, None, is_some, ⊤}
 use Rattle.po_term.specs.declared.term.Reg.{Reg as Register}
 use Rattle.po_term.specs.declared.term.Sym.{Sym}
 use Rattle.po_term.specs.Terms.{Place, State, IsState}
