@@ -1,0 +1,2 @@
+pub mod KeepsEffect
+pub mod Laws

@@ -4,8 +4,9 @@ ghost use Rattle.po_term.specs.Moves.{instr_of};
 ghost use Rattle.po_term.specs.Kinds.{words};
 ghost use Rattle.po_model.specs.Fit.{places};
 ghost use Rattle.po_model.specs.Joined.{AsOne};
-ghost use Rattle.po_model.specs.Pairs.{pair_of};
+ghost use Rattle.po_model.specs.Pairs.{pair_of, WellFormedPair};
 ghost use Rattle.po_model.specs.Combined.{recognised, combination, combination_of};
+ghost use Rattle.po_slow.specs.KeepsEffect.{KeepsEffect};
 
 use po_model::{Machine, Outcome, Pair, Steps};
 use po_recog::recognise;
@@ -31,6 +32,18 @@ fn if_recognised(
     }
 }
 
+/// What becomes of a pair, without the count.
+fn outcome(alloc: Global, m: &Machine, p: &Pair) -> Result<Outcome, OutOfMemory>
+    requires { length m.now.entries < 2 ^ 32 }
+    ensures { IfOk result (λ o. combination_of o ≡ combination m.now (pair_of p.now)) }
+{
+    match together(alloc, p)? {
+        Joined::Not => Ok(Outcome::Keep),
+        Joined::Empty => Ok(Outcome::Nothing),
+        Joined::List(i) => if_recognised(alloc, m, i, p.live.cc),
+    }
+}
+
 /// What becomes of a pair on the machine (docs/OPTIMISER.md, "Combination"). One step is counted, whatever the answer. It fails only
 /// where memory is refused.
 pub fn slow_pair<L: Ledger>(
@@ -41,12 +54,10 @@ pub fn slow_pair<L: Ledger>(
 ) -> Result<Outcome, OutOfMemory>
     requires { length m.now.entries < 2 ^ 32 }
     ensures combines { IfOk result (λ o. combination_of o ≡ combination m.now (pair_of p.now)) }
+    ensures keeps_effect { IfOk result (λ o. WellFormedPair (pair_of p.now) → KeepsEffect m.now (pair_of p.now) (combination_of o)) }
     ensures ticks { steps.new ≡ steps.old + 1 }
 {
     steps.tick();
-    match together(alloc, p)? {
-        Joined::Not => Ok(Outcome::Keep),
-        Joined::Empty => Ok(Outcome::Nothing),
-        Joined::List(i) => if_recognised(alloc, m, i, p.live.cc),
-    }
+    let outcome = outcome(alloc, m, p)?;
+    Ok(outcome)
 }
