@@ -67,7 +67,7 @@ mark_again byte c rest = let same : (byte == byte) ≡ true = grind (arith, nat_
 
 -- operands
 
-digit_here : (k : ℕ) → k < 10 → is_digit (48 + k) ≡ true
+pub digit_here : (k : ℕ) → k < 10 → is_digit (48 + k) ≡ true
 digit_here k h = grind (arith, nat_tests)
 
 behind_mark : (byte k : ℕ) (rest : List ℕ) → k < 10 → digit_behind byte (byte ∷ (48 + k) ∷ rest) ≡ Some k
@@ -92,10 +92,10 @@ pub record IsSigned (z : ℤ) : Type 0 where
   pub low : negsuc 2147483647 ≤ℤ z
   pub high : z ≤ℤ pos 2147483647
 
-small_pos : (n : ℕ) → pos n ≤ℤ pos 2147483647 → n < 2 ^ 32
+pub small_pos : (n : ℕ) → pos n ≤ℤ pos 2147483647 → n < 2 ^ 32
 small_pos n h = omega (arith, ints)
 
-small_neg : (n : ℕ) → negsuc 2147483647 ≤ℤ negsuc n → suc n < 2 ^ 32
+pub small_neg : (n : ℕ) → negsuc 2147483647 ≤ℤ negsuc n → suc n < 2 ^ 32
 small_neg n h = omega (arith, ints)
 
 no_minus : (d : ℕ) → is_digit d ≡ true → (d == 45) ≡ false
@@ -166,7 +166,7 @@ pub record IsNameOf (x : Reg) (w : List ℕ) : Type 0 where
   pub name : list_all is_name_byte w ≡ true
   pub is : parts.fixed_of w ≡ Some x
 
-fixed_name : (x : Reg) → IsFixed x → IsNameOf x (reg_text x)
+pub fixed_name : (x : Reg) → IsFixed x → IsNameOf x (reg_text x)
 fixed_name (Virt n) h = absurd h
 fixed_name Fp h = record { name = refl; is = refl }
 fixed_name Rv h = record { name = refl; is = refl }
@@ -188,10 +188,10 @@ any_again k c rest seen h may = let got = operand_again Register k c rest seen h
 
 -- constants
 
-le_from : (a b : ℤ) → int_le a b ≡ true → a ≤ℤ b
+pub le_from : (a b : ℤ) → int_le a b ≡ true → a ≤ℤ b
 le_from a b h = grind (arith, ints)
 
-le_through : (a b c : ℤ) → a ≤ℤ b → b ≤ℤ c → a ≤ℤ c
+pub le_through : (a b c : ℤ) → a ≤ℤ b → b ≤ℤ c → a ≤ℤ c
 le_through a b c h g = omega (arith, ints)
 
 range_again : (low high : ℤ) (c : ℕ) (rest : List ℕ) (seen : Operands) → IsRange low high
@@ -244,7 +244,7 @@ pub symbol_again : (k c : ℕ) (rest : List ℕ) (seen : Operands) → k < 10 �
 unfolding parts.symbol_address
 symbol_again k c rest seen h may = let got = operand_again Symbol k c rest seen h may.may in let is = got.is in record { column = got.column; is = rw is refl }
 
-word_signed : (n : ℕ) → n < 2 ^ 32 → IsSigned (signed n)
+pub word_signed : (n : ℕ) → n < 2 ^ 32 → IsSigned (signed n)
 word_signed n h = record { low = omega (arith, ints); high = omega (arith, ints) }
 
 pub signed_front : (n : ℕ) → n < 2 ^ 32 → NumberFront (const_text n)

@@ -12,3 +12,11 @@ pub mod Pieces
 pub mod Allowed
 pub mod Noted
 pub mod AgainParts
+pub mod Backs
+pub mod AgainTerms
+pub mod AgainMoves
+pub mod AgainFits
+pub mod AgainList
+pub mod AgainTemplate
+pub mod Again
+pub mod Plain

@@ -11,5 +11,6 @@ pub mod New
 pub mod Described
 pub mod PrintedLines
 pub mod PrintedNames
+pub mod PrintedEntries
 pub mod Printed
 pub mod Written

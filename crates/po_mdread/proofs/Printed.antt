@@ -14,12 +14,13 @@ use Rattle.po_model.specs.Machines.{IsMachine}
 use Rattle.po_entry.specs.EntryText.{entry_text}
 use Rattle.po_mdread.specs.declared.sofar.Sofar.TheVariants.{ToMachine, Ended}
 use Rattle.po_mdread.specs.Description.{said_lines, line_texts, BeginsWith, AreInsnLines, head_texts, IsDescription}
-use Rattle.po_mdread.specs.MachineText.{head_text, machine_lines, lines_text, machine_text, IsReadAgain, IsPrintable, end_of_text}
+use Rattle.po_mdread.specs.MachineText.{head_text, machine_lines, lines_text, machine_text, IsPrintable, end_of_text}
 use Rattle.po_mdread.specs.Reading.{behind, start, step, finish, described, machine_in}
 use Rattle.po_mdread.proofs.Again.{has_words}
 use Rattle.po_mdread.proofs.Described.{AreShort, said_first, names_by, description_again}
 use Rattle.po_mdread.proofs.NameLaws.{AreNames}
 use Rattle.po_mdread.proofs.New.{names_front, names_back}
+use Rattle.po_mdread.proofs.PrintedEntries.{IsReadAgain, all_again}
 use Rattle.po_mdread.proofs.PrintedLines.{IsPlain, numbered, lines_again}
 use Rattle.po_mdread.proofs.PrintedNames.{head_plain, head_words, solid_name, plain_name}
 
@@ -156,7 +157,7 @@ plain_lines m h named = (
         head_plain (codes "args") m.args (plain_name (codes "args") refl) (names_front m.args m.regs named.1.1),
         (
           head_plain (codes "regs") m.regs (plain_name (codes "regs") refl) (names_back m.args m.regs named.1.1),
-          plain_tail m.entries h.entries,
+          plain_tail m.entries (all_again m.entries h.allowed.each),
         ),
       ),
     ),
@@ -201,7 +202,7 @@ listing m h named =
     let d : Numbered = line_at 4 c.after td in
     let e : Numbered = line_at 5 d.after te in
     let tail : List (List ℕ) = map entry_text m.entries ++ codes "end" ∷ [] in
-    let t = tail_is m.entries 6 e.after h.entries in
+    let t = tail_is m.entries 6 e.after (all_again m.entries h.allowed.each) in
     let heads = head_lines_are m h.allowed named a b c d e refl refl refl refl refl in
     let speak = heads_speak m a b c d e heads in
     let all : List Numbered = a ∷ b ∷ c ∷ d ∷ e ∷ numbered 6 e.after tail in

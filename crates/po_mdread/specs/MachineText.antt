@@ -1,14 +1,10 @@
 -- The printed text of a machine.
-use Rattle.std.specs.Prelude.{◌≡◌, ◌≤◌, ◌+◌, ℕ, List, [], ◌∷◌, ◌++◌, length, map, codes, Ok}
+use Rattle.std.specs.Prelude.{◌≤◌, ◌+◌, ℕ, List, [], ◌∷◌, ◌++◌, length, map, codes}
 use Rattle.std.specs.List.{AllByRecursion, flat_map, join_with_byte}
 use Rattle.po_text.specs.declared.fault.Spot.{Spot}
-use Rattle.po_lines.specs.Words.{words_in}
-use Rattle.po_model.specs.declared.machine.Entry.{Entry}
 use Rattle.po_model.specs.declared.machine.Machine.{Machine}
 use Rattle.po_model.specs.Machines.{IsMachine}
 use Rattle.po_entry.specs.EntryText.{entry_text}
-use Rattle.po_entry.specs.Reading.{entry_in}
-use Rattle.po_mdread.specs.Description.{BeginsWith}
 
 -- a head line: its word and its names, one space between two
 abbrev pub head_text : List ℕ → List (List ℕ) → List ℕ
@@ -31,18 +27,10 @@ lines_text lines = flat_map (λ line. line ++ 10 ∷ []) lines
 unfoldable pub machine_text : Machine → List ℕ
 machine_text m = lines_text (machine_lines m)
 
--- an entry whose printed line is read as it again
-pub record IsReadAgain (e : Entry) : Type 0 where
-  pub again : entry_in (entry_text e) ≡ Ok e
-  pub first : BeginsWith (codes "insn") (map (λ w. w.bytes) (words_in (entry_text e)))
-  -- its bytes are blanks and what is no control character
-  pub plain : AllByRecursion (λ b. 32 ≤ b) (entry_text e)
-
 -- what a machine has whose printed description is read again: no line is too long
 pub record IsPrintable (m : Machine) : Type 0 where
   pub allowed : IsMachine m
   pub short : AllByRecursion (λ line. length line ≤ 4096) (machine_lines m)
-  pub entries : AllByRecursion IsReadAgain m.entries
 
 -- the place behind it
 abbrev pub end_of_text : Machine → Spot

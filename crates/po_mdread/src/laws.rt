@@ -9,8 +9,8 @@ ghost use Rattle.po_mdread.specs.Description.{BeginWith};
 ghost use Rattle.po_mdread.specs.MachineText.{machine_text, IsPrintable, end_of_text};
 ghost use Rattle.po_mdread.specs.Reading.{described, machine_in};
 
-/// A printed machine is read as itself, to the end of its text, where each of its lines has at most 4,096 bytes and each
-/// entry's line is read as that entry (docs/DESCRIPTION.md).
+/// A printed machine is read as itself, to the end of its text, where each of its lines has at most 4,096 bytes
+/// (docs/DESCRIPTION.md).
 pub fn printed_again()
     ensures { (m : Machine) → IsPrintable m → machine_in (machine_text m) ≡ Ok (m, end_of_text m) }
 {}

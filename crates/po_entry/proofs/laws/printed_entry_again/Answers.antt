@@ -1,5 +1,5 @@
-use Rattle.po_entry.proofs.AgainParts.{operand_again}
+use Rattle.po_entry.proofs.Again.{entry_again}
 use Rattle.po_entry.proofs.laws.printed_entry_again.Goals as goal
 
 pub returns : goal.returns
-returns c = ?
+returns c = λ e h. entry_again e h
