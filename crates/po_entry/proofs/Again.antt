@@ -1,24 +1,22 @@
 -- The printed line of an entry is read as that entry.
-use Rattle.std.proofs.Common.{◌≡◌, ℕ, ◌+◌, ◌<◌, ◌≤◌, Bool, true, false, List, [], ◌∷◌, ◌++◌, length, append_assoc, map, All, AllPairs, codes, refl, sym, ap, ◌∙◌, subst, arith, Result, Ok}
+use Rattle.std.proofs.Common.{◌≡◌, ℕ, ◌+◌, ◌≤◌, Bool, true, false, List, [], ◌∷◌, ◌++◌, length, append_assoc, map, All, AllPairs, codes, refl, ap, ◌∙◌, arith, Ok}
 use Rattle.std.specs.List.{prefix_len}
 use Rattle.std.proofs.lemmas.List.Elements.{All-head}
 use Rattle.po_text.specs.Words.{is_blank}
 use Rattle.po_model.specs.declared.machine.Entry.{Entry}
 use Rattle.po_model.specs.declared.machine.PatTransfer.{PatTransfer}
-use Rattle.po_model.specs.Patterns.{PatMove, pat_move_of, pat_moves_of}
+use Rattle.po_model.specs.Patterns.{PatMove, pat_moves_of}
 use Rattle.po_model.specs.Entries.{GoesBefore, IsPatMove, places_of, IsEntry}
 use Rattle.po_pattern.specs.declared.operands.Operands.{Operands}
-use Rattle.po_pattern.specs.Rests.{skip_blanks}
 use Rattle.po_pattern.specs.Seen.{none_seen}
 use Rattle.po_entry.specs.EntryText.{pattern_text, clobber_text, template_text, entry_text}
-use Rattle.po_entry.specs.Words.{says, keyword}
-use Rattle.po_entry.specs.ListRules.{transfers, clobber_in}
-use Rattle.po_entry.specs.Template.{arrow, template_in}
-use Rattle.po_entry.specs.Reading.{line_start, entry_in}
+use Rattle.po_entry.specs.Words.{says}
+use Rattle.po_entry.specs.ListRules.{transfers}
+use Rattle.po_entry.specs.Reading.{entry_in}
 use Rattle.po_entry.proofs.Noted.{noted, Fits}
 use Rattle.po_entry.proofs.AgainParts.{at, Again, skip_none}
 use Rattle.po_entry.proofs.AgainMoves.{keyword_again, word_says, Follows, back_move, back_move_again}
-use Rattle.po_entry.proofs.AgainFits.{AreSmall, small_moves, from_none}
+use Rattle.po_entry.proofs.AgainFits.{small_moves, from_none}
 use Rattle.po_entry.proofs.AgainList.{list_solid, list_again}
 use Rattle.po_entry.proofs.AgainTemplate.{behind_list, clobber_again, arrow_again, template_again}
 

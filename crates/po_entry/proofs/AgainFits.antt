@@ -1,14 +1,13 @@
 -- The places of an entry may be read one after the other.
-use Rattle.std.proofs.Common.{◌≡◌, ℕ, ◌<◌, Bool, true, false, List, [], ◌∷◌, ◌++◌, length, length-append, append_assoc, get_or, AllPairs, refl, sym, ap, ◌∙◌, subst, arith, Option, Some, None, append-nil}
+use Rattle.std.proofs.Common.{◌≡◌, ◌<◌, true, false, List, [], ◌∷◌, ◌++◌, length, length-append, append_assoc, get_or, AllPairs, refl, sym, ◌∙◌, subst, arith, Option, Some, None, append-nil}
 use Rattle.std.specs.Prelude.{⊤, Contains, All}
 use Rattle.std.proofs.lemmas.List.Elements.{All-head, All-tail}
 use Rattle.std.proofs.Math.ListN.{get_or-append}
 use Rattle.std.proofs.Math.Seq.{get_or-append_seam}
 use Rattle.po_term.specs.Tree as tree
-use Rattle.po_term.specs.declared.term.Reg.TheVariants.{Virt, Fp, Rv, Arg}
 use Rattle.po_model.specs.declared.machine.PatReg.{PatReg}
 use Rattle.po_model.specs.declared.machine.PatReg.TheVariants.{Any, Fixed}
-use Rattle.po_model.specs.Patterns.{PatTree, PatConst, Exactly, Operand, PatLeaf, InPatReg, AtSymbol, PatMove, SetsTo, Compares, Stores, Jumps, Branches, BranchesOn, Calls, Returns}
+use Rattle.po_model.specs.Patterns.{PatTree, Exactly, Operand, InPatReg, AtSymbol, PatMove, SetsTo, Compares, Stores, Jumps, Branches, BranchesOn, Calls, Returns}
 use Rattle.po_model.specs.Entries.{Sort, OfReg, OfNum, OfSym, OfLabel, Place, place, AgreesWith, IsPatReg, IsPatConst, IsPatLeaf, IsPatTree, IsPatMove, reg_places, tree_places, move_places, places_of}
 use Rattle.po_pattern.specs.declared.operands.Operands.{Operands}
 use Rattle.po_pattern.specs.declared.operands.OperandKind.{OperandKind}

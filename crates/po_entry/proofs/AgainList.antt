@@ -1,32 +1,26 @@
 -- The printed list of an entry's transfers is read as that list, and so is the mark behind it.
-use Rattle.std.proofs.Common.{◌≡◌, ◌≢◌, ◌⊎◌, inl, inr, ℕ, ◌+◌, ◌<◌, ◌≤◌, ◌==◌, ◌&&◌, Bool, true, false, not, nat_lt, List, [], ◌∷◌, ◌++◌, length, length-append, append_assoc, append-nil, get_or, map, All, AllPairs, codes, refl, sym, ap, ◌∙◌, subst, arith, zero, suc, eqb-true, eq-eqb, Option, Some, None, Result, Ok}
-use Rattle.std.specs.List.{list_all, list_any, flat_map, prefix_len}
+use Rattle.std.proofs.Common.{◌≡◌, ℕ, ◌+◌, ◌<◌, ◌≤◌, Bool, true, false, not, nat_lt, List, [], ◌∷◌, ◌++◌, length, length-append, append_assoc, append-nil, get_or, map, All, AllPairs, codes, refl, sym, ap, ◌∙◌, subst, arith, zero, suc, eqb-true}
+use Rattle.std.specs.List.{list_all, flat_map, prefix_len}
 use Rattle.std.proofs.lemmas.Bool.Decides.{nat_tests}
 use Rattle.std.proofs.lemmas.List.{length-map, map-append}
 use Rattle.std.proofs.lemmas.List.Elements.{All-head, All-tail}
 use Rattle.std.proofs.Math.ListN.{get_or-append}
 use Rattle.std.proofs.Math.Seq.{get_or-append_seam}
 use Rattle.po_text.specs.Words.{is_blank}
-use Rattle.po_lines.specs.declared.fault.LineFault.{LineFault}
 use Rattle.po_term.specs.declared.term.Reg.{Reg}
 use Rattle.po_term.specs.declared.term.Reg.TheVariants.{Virt, Fp, Rv, Arg}
 use Rattle.po_term.specs.Simplified.{reg_eq}
-use Rattle.po_termtext.specs.TermText.{joined}
 use Rattle.po_model.specs.declared.machine.PatReg.{PatReg}
 use Rattle.po_model.specs.declared.machine.PatReg.TheVariants.{Any, Fixed}
-use Rattle.po_model.specs.declared.machine.PatTransfer.{PatTransfer}
-use Rattle.po_model.specs.declared.machine.PatTransfer.TheVariants as transfer
 use Rattle.po_model.specs.Patterns.{PatTree, PatMove, SetsTo, Compares, Stores, Jumps, Branches, BranchesOn, Calls, Returns}
-use Rattle.po_model.specs.Entries.{Place, kind_of, GoesBefore, IsPatMove, move_places, places_of, MayClobber}
+use Rattle.po_model.specs.Entries.{Place, kind_of, GoesBefore, IsPatMove, move_places, places_of}
 use Rattle.po_pattern.specs.declared.operands.Operands.{Operands}
-use Rattle.po_pattern.specs.Rests.{Rest, Read, begins}
-use Rattle.po_entry.specs.EntryText.{pat_move_text, pattern_text, clobber_text}
-use Rattle.po_entry.specs.Words.{is_word_byte, says, behind_word, keyword}
-use Rattle.po_entry.specs.Transfers.{transfer_in}
-use Rattle.po_entry.specs.ListRules.{order_of, same_register, sets, goes_before, may_follow, decided, with_next, transfers, sets_cc, clobber_may_stand, clobber_in}
+use Rattle.po_entry.specs.EntryText.{pat_move_text, pattern_text}
+use Rattle.po_entry.specs.Words.{says}
+use Rattle.po_entry.specs.ListRules.{order_of, same_register, sets, goes_before, may_follow, with_next, transfers}
 use Rattle.po_entry.proofs.Noted.{noted, Fits, noted_more, fits_front, fits_back}
 use Rattle.po_entry.proofs.AgainParts.{at, Again}
-use Rattle.po_entry.proofs.AgainMoves.{says_again, behind_is, keyword_again, word_says, Follows, move_solid, back_move, move_again}
+use Rattle.po_entry.proofs.AgainMoves.{says_again, behind_is, Follows, move_solid, back_move, move_again}
 
 -- registers that differ
 
@@ -195,7 +189,7 @@ list_again (n ∷ ms) m (suc more) bs c tail seen room few h pairs fits f none =
     let left = behind_is (codes ";") one.column behind refl solid in
     let same : bs ++ m ∷ [] ++ (n ∷ ms) ≡ bs ++ (m ∷ n ∷ ms) = append_assoc bs (m ∷ []) (n ∷ ms) in
     let two = list_again ms n more (bs ++ m ∷ []) (one.column + 1 + 1) tail (noted seen (move_places m)) (omega (arith, room)) (subst (λ (xs : List PatMove). length xs ≤ 4) (sym same) few) others
-            (subst (λ (xs : List PatMove). AllPairs GoesBefore xs) (sym same) pairs) (fits_back seen (move_places m) (places_of (n ∷ ms)) fits) f none in
+    (subst (λ (xs : List PatMove). AllPairs GoesBefore xs) (sym same) pairs) (fits_back seen (move_places m) (places_of (n ∷ ms)) fits) f none in
     let second = two.is in
     let places : noted seen (places_of (m ∷ n ∷ ms)) ≡ noted (noted seen (move_places m)) (places_of (n ∷ ms)) = noted_more seen (move_places m) (places_of (n ∷ ms)) in
     let value : map back_move (bs ++ (m ∷ n ∷ ms)) ≡ map back_move (bs ++ m ∷ [] ++ (n ∷ ms)) = ap (map back_move) (sym same) in

@@ -1,5 +1,5 @@
 -- A printed transfer is read as that transfer.
-use Rattle.std.proofs.Common.{◌≡◌, ◌⊎◌, inl, inr, ℕ, ◌+◌, ◌-◌, ◌<◌, ◌≤◌, ◌==◌, ◌&&◌, Bool, true, false, List, [], ◌∷◌, ◌++◌, length, append_assoc, take, drop, codes, refl, sym, ap, ◌∙◌, subst, arith, zero, suc, Option, Some, None, Result, Ok}
+use Rattle.std.proofs.Common.{◌≡◌, ◌⊎◌, inl, inr, ℕ, ◌+◌, ◌<◌, Bool, true, false, List, [], ◌∷◌, ◌++◌, length, append_assoc, take, drop, codes, refl, sym, ap, ◌∙◌, subst, arith, zero, suc, Some, Result, Ok}
 use Rattle.std.specs.Prelude.{nat_eq}
 use Rattle.std.specs.List.{list_all, prefix_len}
 use Rattle.std.specs.Fmt.{decimal}
@@ -11,14 +11,13 @@ use Rattle.po_word.specs.declared.operator.Un.TheVariants.{Neg, Not}
 use Rattle.po_word.specs.declared.operator.Rel.{Rel}
 use Rattle.po_word.specs.declared.operator.Rel.TheVariants.{Eq, Ne, Lt, Le, Gt, Ge, Ltu, Geu}
 use Rattle.po_text.specs.Words.{is_blank}
-use Rattle.po_name.specs.Names.{is_digit, is_name_byte}
+use Rattle.po_name.specs.Names.{is_digit}
 use Rattle.po_lines.specs.declared.fault.LineFault.{LineFault}
 use Rattle.po_lines.specs.Leaves.{same}
-use Rattle.po_term.specs.declared.term.Reg.{Reg}
 use Rattle.po_term.specs.declared.term.Reg.TheVariants.{Virt, Fp, Rv, Arg}
 use Rattle.po_term.specs.Tree as tree
 use Rattle.po_term.specs.Tree.{Const, Leaf, Unary, Binary, EachConst, EachLeaf}
-use Rattle.po_termtext.specs.TermText.{const_text, reg_text, rel_text}
+use Rattle.po_termtext.specs.TermText.{const_text, rel_text}
 use Rattle.po_model.specs.declared.machine.PatReg.{PatReg}
 use Rattle.po_model.specs.declared.machine.PatReg.TheVariants.{Any, Fixed}
 use Rattle.po_model.specs.declared.machine.PatTerm.{PatTerm}
@@ -27,20 +26,18 @@ use Rattle.po_model.specs.declared.machine.PatCond.TheVariants as cond
 use Rattle.po_model.specs.declared.machine.PatTransfer.{PatTransfer}
 use Rattle.po_model.specs.declared.machine.PatTransfer.TheVariants as transfer
 use Rattle.po_model.specs.Patterns.{PatTree, Exactly, Operand, InPatReg, AtSymbol, pattern_of, PatMove, SetsTo, Compares, Stores, Jumps, Branches, BranchesOn, Calls, Returns, pat_move_of}
-use Rattle.po_model.specs.Entries.{Place, place, OfReg, OfSym, OfLabel, IsFixed, IsPatReg, IsPatConst, IsPatLeaf, IsPatTree, IsPatMove, reg_places, tree_places, move_places}
+use Rattle.po_model.specs.Entries.{Place, place, OfSym, OfLabel, IsPatReg, IsPatConst, IsPatLeaf, IsPatTree, IsPatMove, reg_places, tree_places, move_places}
 use Rattle.po_pattern.specs.declared.operands.Operands.{Operands}
 use Rattle.po_pattern.specs.declared.operands.OperandKind.TheVariants.{Symbol, Label}
 use Rattle.po_pattern.specs.Rests.{Rest, Read, begins, skip_blanks}
 use Rattle.po_pattern.specs.Seen.{with_operand}
 use Rattle.po_pattern.specs.Parts as parts
-use Rattle.po_pattern.specs.Terms as terms
-use Rattle.po_entry.specs.declared.pair.Pair.{Pair}
 use Rattle.po_entry.specs.EntryText.{pat_reg_text, pat_term_text, pat_move_text}
 use Rattle.po_entry.specs.Words.{is_word_byte, word_here, says, after_word, behind_word, keyword, ended}
 use Rattle.po_entry.specs.Transfers as transfers
 use Rattle.po_entry.proofs.Noted.{noted, Fits, noted_more, fits_front, fits_back}
 use Rattle.po_entry.proofs.Backs.{back, back_again}
-use Rattle.po_entry.proofs.AgainParts.{at, Again, prefix_again, skip_none, skip_one, operand_again, Stops, NumberFront, signed_front, any_again, fixed_again}
+use Rattle.po_entry.proofs.AgainParts.{at, Again, prefix_again, skip_one, operand_again, Stops, NumberFront, signed_front, any_again, fixed_again}
 use Rattle.po_entry.proofs.AgainTerms.{term_solid, term_again, address_again}
 
 -- words
@@ -176,7 +173,7 @@ set_again r t c rest seen h g fits more f =
 
 cc_again : (t u : PatTree) (c : ℕ) (rest : List ℕ) (seen : Operands) → IsPatTree t → IsPatTree u → Fits seen (tree_places t) → Fits (noted seen (tree_places t)) (tree_places u) → Follows rest
     → Again (transfers.cc_in (at c (99 ∷ 99 ∷ 32 ∷ 58 ∷ 61 ∷ 32 ∷ (pat_term_text t ++ (32 ∷ 63 ∷ 32 ∷ (pat_term_text u ++ (32 ∷ rest)))))) seen) (Some (transfer.Cc (back t) (back u))) rest
-        (noted (noted seen (tree_places t)) (tree_places u))
+    (noted (noted seen (tree_places t)) (tree_places u))
 unfolding transfers.cc_in
 cc_again t u c rest seen h g fits more f =
     let behind : List ℕ = pat_term_text t ++ (32 ∷ 63 ∷ 32 ∷ (pat_term_text u ++ (32 ∷ rest))) in
@@ -189,7 +186,7 @@ cc_again t u c rest seen h g fits more f =
 
 store_again : (t u : PatTree) (c : ℕ) (rest : List ℕ) (seen : Operands) → IsPatTree t → IsPatTree u → Fits seen (tree_places t) → Fits (noted seen (tree_places t)) (tree_places u) → Follows rest
     → Again (transfers.store_in (at c (77 ∷ 91 ∷ (pat_term_text t ++ (93 ∷ 32 ∷ 58 ∷ 61 ∷ 32 ∷ (pat_term_text u ++ (32 ∷ rest)))))) seen) (Some (transfer.Store (back t) (back u))) rest
-        (noted (noted seen (tree_places t)) (tree_places u))
+    (noted (noted seen (tree_places t)) (tree_places u))
 unfolding transfers.store_in
 store_again t u c rest seen h g fits more f =
     let behind : List ℕ = pat_term_text u ++ (32 ∷ rest) in
@@ -293,8 +290,8 @@ if_cc_again r k c rest seen h fits f =
 
 if_two_again : (t u : PatTree) (r : Rel) (k c : ℕ) (rest : List ℕ) (seen : Operands) → IsPatTree t → IsPatTree u → k < 10 → Fits seen (tree_places t) → Fits (noted seen (tree_places t)) (tree_places u)
     → Fits (noted (noted seen (tree_places t)) (tree_places u)) (place k OfLabel false ∷ []) → Follows rest
-    → Again (transfers.if_in (at c (codes "if" ++ (32 ∷ (pat_term_text t ++ (32 ∷ 63 ∷ 32 ∷ (pat_term_text u ++ (32 ∷ (rel_text r ++ (32 ∷ (codes "goto" ++ (32 ∷ 64 ∷ (48 + k) ∷ 32 ∷ rest)))))))))) ) seen)
-        (Some (transfer.If (cond.Two (back t) (back u)) r k)) rest (with_operand (noted (noted seen (tree_places t)) (tree_places u)) Label k)
+    → Again (transfers.if_in (at c (codes "if" ++ (32 ∷ (pat_term_text t ++ (32 ∷ 63 ∷ 32 ∷ (pat_term_text u ++ (32 ∷ (rel_text r ++ (32 ∷ (codes "goto" ++ (32 ∷ 64 ∷ (48 + k) ∷ 32 ∷ rest))))))))))) seen)
+    (Some (transfer.If (cond.Two (back t) (back u)) r k)) rest (with_operand (noted (noted seen (tree_places t)) (tree_places u)) Label k)
 unfolding transfers.if_in
 if_two_again t u r k c rest seen h g small fits more last f =
     let tail : List ℕ = rel_text r ++ (32 ∷ (codes "goto" ++ (32 ∷ 64 ∷ (48 + k) ∷ 32 ∷ rest))) in
@@ -489,9 +486,9 @@ move_again (Jumps k) c rest seen h fits f =
 move_again (Branches r k) c rest seen h fits f =
     let digit = digit_text k (codes "if cc " ++ rel_text r ++ codes " goto " ++ codes "@") rest h in
     let text : codes "if cc " ++ rel_text r ++ codes " goto " ++ codes "@" ++ ((48 + k) ∷ 32 ∷ rest) ≡ codes "if" ++ (32 ∷ (codes "cc" ++ (32 ∷ (rel_text r ++ (32 ∷ (codes "goto" ++ (32 ∷ 64 ∷ (48 + k) ∷ 32 ∷ rest))))))) =
-            four_texts (codes "if cc ") (rel_text r) (codes " goto ") (codes "@") ((48 + k) ∷ 32 ∷ rest) in
+    four_texts (codes "if cc ") (rel_text r) (codes " goto ") (codes "@") ((48 + k) ∷ 32 ∷ rest) in
     let start : pat_move_text (Branches r k) ++ (32 ∷ rest) ≡ codes "if cc " ++ rel_text r ++ codes " goto " ++ codes "@" ++ decimal k ++ (32 ∷ rest) =
-            ap (λ (w : List ℕ). w ++ (32 ∷ rest)) (sym (append_assoc (codes "if cc " ++ rel_text r ++ codes " goto ") (codes "@") (decimal k))) in
+    ap (λ (w : List ℕ). w ++ (32 ∷ rest)) (sym (append_assoc (codes "if cc " ++ rel_text r ++ codes " goto ") (codes "@") (decimal k))) in
     again_at transfers.transfer_in transfers.if_in c _ _ rest _ seen _ (start ∙ digit ∙ text) (if_move c (codes "cc" ++ (32 ∷ (rel_text r ++ (32 ∷ (codes "goto" ++ (32 ∷ 64 ∷ (48 + k) ∷ 32 ∷ rest)))))) seen) (if_cc_again r k c rest seen h fits f)
 move_again (BranchesOn t u r k) c rest seen h fits f =
     let ts : List Place = tree_places t in
@@ -502,14 +499,14 @@ move_again (BranchesOn t u r k) c rest seen h fits f =
     let bytes : List ℕ = codes "if" ++ (32 ∷ (pat_term_text t ++ (32 ∷ 63 ∷ 32 ∷ (pat_term_text u ++ (32 ∷ (rel_text r ++ (32 ∷ (codes "goto" ++ (32 ∷ 64 ∷ (48 + k) ∷ 32 ∷ rest))))))))) in
     let text : front ++ ((48 + k) ∷ 32 ∷ rest) ≡ bytes = eight_texts (codes "if ") (pat_term_text t) (codes " ? ") (pat_term_text u) (codes " ") (rel_text r) (codes " goto ") (codes "@") ((48 + k) ∷ 32 ∷ rest) in
     let start : pat_move_text (BranchesOn t u r k) ++ (32 ∷ rest) ≡ front ++ decimal k ++ (32 ∷ rest) =
-            ap (λ (w : List ℕ). w ++ (32 ∷ rest)) (sym (append_assoc (codes "if " ++ pat_term_text t ++ codes " ? " ++ pat_term_text u ++ codes " " ++ rel_text r ++ codes " goto ") (codes "@") (decimal k))) in
+    ap (λ (w : List ℕ). w ++ (32 ∷ rest)) (sym (append_assoc (codes "if " ++ pat_term_text t ++ codes " ? " ++ pat_term_text u ++ codes " " ++ rel_text r ++ codes " goto ") (codes "@") (decimal k))) in
     let fit_one = fits_front seen (ts ++ us) last fits in
     let got = if_two_again t u r k c rest seen h.0 h.1 h.2 (fits_front seen ts us fit_one) (fits_back seen ts us fit_one)
-            (subst (λ (s : Operands). Fits s last) (noted_more seen ts us) (fits_back seen (ts ++ us) last fits)) f in
+    (subst (λ (s : Operands). Fits s last) (noted_more seen ts us) (fits_back seen (ts ++ us) last fits)) f in
     let same : noted seen (ts ++ us ++ last) ≡ with_operand (noted (noted seen ts) us) Label k = noted_more seen (ts ++ us) last ∙ ap (λ (s : Operands). with_operand s Label k) (noted_more seen ts us) in
     subst (λ (s : Operands). Again (transfers.transfer_in (at c (pat_move_text (BranchesOn t u r k) ++ (32 ∷ rest))) seen) (Some (back_move (BranchesOn t u r k))) rest s) (sym same)
     (again_at transfers.transfer_in transfers.if_in c _ _ rest _ seen _ (start ∙ digit ∙ text)
-     (if_move c (pat_term_text t ++ (32 ∷ 63 ∷ 32 ∷ (pat_term_text u ++ (32 ∷ (rel_text r ++ (32 ∷ (codes "goto" ++ (32 ∷ 64 ∷ (48 + k) ∷ 32 ∷ rest)))))))) seen) got)
+    (if_move c (pat_term_text t ++ (32 ∷ 63 ∷ 32 ∷ (pat_term_text u ++ (32 ∷ (rel_text r ++ (32 ∷ (codes "goto" ++ (32 ∷ 64 ∷ (48 + k) ∷ 32 ∷ rest)))))))) seen) got)
 move_again (Calls k) c rest seen h fits f =
     again_at transfers.transfer_in transfers.transfer_in c _ _ rest _ seen _ (digit_text k (codes "call &") rest h) refl (call_move k c rest seen h fits f)
 move_again Returns c rest seen h fits f = ret_move c rest seen f

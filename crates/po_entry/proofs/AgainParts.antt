@@ -1,6 +1,6 @@
 -- The printed parts of a term that have no parts of their own are read as themselves.
-use Rattle.std.proofs.Common.{append_assoc, ◌⊎◌, inl, inr, ◌≡◌, ℕ, ◌+◌, ◌-◌, ◌<◌, ◌≤◌, ◌^◌, ◌==◌, Bool, true, false, List, [], ◌∷◌, ◌++◌, length, take, drop, codes, refl, sym, ap, ◌∙◌, subst, arith, zero, suc, Option, Some, None, Result, Ok, ℤ, pos, negsuc}
-use Rattle.std.specs.Prelude.{◌≤ℤ◌, IsTrue, cond, int_le, nat_le, nat_eq}
+use Rattle.std.proofs.Common.{append_assoc, ◌⊎◌, inl, inr, ◌≡◌, ℕ, ◌+◌, ◌-◌, ◌<◌, ◌≤◌, ◌^◌, ◌==◌, Bool, true, false, List, [], ◌∷◌, ◌++◌, length, take, drop, refl, sym, ap, ◌∙◌, subst, arith, zero, suc, Option, Some, None, Result, Ok, ℤ, pos, negsuc}
+use Rattle.std.specs.Prelude.{◌≤ℤ◌, int_le}
 use Rattle.std.specs.List.{list_all, prefix_len}
 use Rattle.std.specs.Int.{w32}
 use Rattle.std.specs.Fmt.{decimal, signed_decimal}
@@ -14,26 +14,22 @@ use Rattle.po_name.specs.Names.{is_digit, is_name_byte}
 use Rattle.po_lines.specs.declared.fault.LineFault.{LineFault}
 use Rattle.po_pattern.specs.declared.operands.Operands.{Operands}
 use Rattle.po_pattern.specs.declared.operands.OperandKind.{OperandKind}
-use Rattle.po_pattern.specs.declared.operands.OperandKind.TheVariants.{Register, Constant, Symbol, Label}
-use Rattle.po_pattern.specs.Rests.{Rest, Read, behind, skip_blanks, begins, mark}
+use Rattle.po_pattern.specs.declared.operands.OperandKind.TheVariants.{Register, Constant, Symbol}
+use Rattle.po_pattern.specs.Rests.{Rest, Read, skip_blanks, begins, mark}
 use Rattle.po_pattern.specs.Seen.{kind_of, with_operand, may_be, is_new}
 use Rattle.po_pattern.specs.Parts as parts
 use Rattle.po_pattern.specs.Parts.{mark_of, digit_behind, operand}
-use Rattle.po_lines.specs.Words.{Placed}
-use Rattle.po_lines.specs.Leaves.{signed_number_in}
 use Rattle.po_lines.proofs.NumberLaws.{signed_number_again}
 use Rattle.po_word.specs.Words.{signed, word_of}
 use Rattle.po_term.specs.declared.term.Reg.{Reg}
 use Rattle.po_term.specs.declared.term.Reg.TheVariants.{Virt, Fp, Rv, Arg}
 use Rattle.po_termtext.specs.TermText.{const_text, reg_text}
 use Rattle.po_termtext.proofs.Numbers.{decimal_digits, decimal_some}
-use Rattle.po_model.specs.declared.machine.PatReg.{PatReg}
 use Rattle.po_model.specs.declared.machine.PatReg.TheVariants.{Any, Fixed}
-use Rattle.po_model.specs.declared.machine.PatTerm.{PatTerm}
 use Rattle.po_model.specs.declared.machine.PatTerm.TheVariants as pat
-use Rattle.po_model.specs.Entries.{OfReg, OfNum, OfSym, OfLabel, Place, place, has_range, reg_places, IsFixed, IsPatReg, IsRange, HasRange}
-use Rattle.po_entry.specs.EntryText.{range_text, pat_reg_text}
-use Rattle.po_entry.proofs.Noted.{kind_at, noted, MayStand, Fits}
+use Rattle.po_model.specs.Entries.{OfReg, OfNum, OfSym, place, has_range, IsFixed, IsRange, HasRange}
+use Rattle.po_entry.specs.EntryText.{range_text}
+use Rattle.po_entry.proofs.Noted.{MayStand}
 
 abbrev pub at : ℕ → List ℕ → Rest
 at column bytes = record { column = column; bytes = bytes }

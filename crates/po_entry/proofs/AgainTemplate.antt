@@ -1,12 +1,9 @@
 -- The printed mark and template of an entry are read as themselves.
-use Rattle.std.proofs.Common.{◌≡◌, ◌≢◌, ℕ, ◌+◌, ◌-◌, ◌<◌, ◌≤◌, ◌==◌, ◌&&◌, Bool, true, false, nat_le, List, [], ◌∷◌, ◌++◌, length, append_assoc, append-nil, get_or, map, All, codes, refl, sym, ap, ◌∙◌, subst, arith, zero, suc, drop, Option, Some, None, Result, Ok}
-use Rattle.std.specs.Prelude.{Contains, ⊤}
-use Rattle.std.specs.List.{list_all, list_any, flat_map, prefix_len}
-use Rattle.std.specs.Fmt.{decimal}
+use Rattle.std.proofs.Common.{◌≡◌, ◌≢◌, ℕ, ◌+◌, ◌-◌, ◌<◌, ◌≤◌, ◌==◌, Bool, true, false, nat_le, List, [], ◌∷◌, ◌++◌, length, append_assoc, append-nil, get_or, map, All, codes, refl, sym, ap, ◌∙◌, subst, arith, zero, suc, Some, None, Result, Ok}
+use Rattle.std.specs.List.{list_any}
 use Rattle.std.proofs.lemmas.Bool.Decides.{nat_tests}
 use Rattle.std.proofs.lemmas.Fmt.{decimal_digit}
 use Rattle.std.proofs.lemmas.List.Elements.{All-head, All-tail}
-use Rattle.po_name.specs.Names.{is_digit}
 use Rattle.po_lines.specs.declared.fault.LineFault.{LineFault}
 use Rattle.po_lines.specs.Faults.{◌>>=◌}
 use Rattle.po_model.specs.declared.machine.Piece.{Piece}
@@ -16,14 +13,11 @@ use Rattle.po_model.specs.Entries.{Sort, OfReg, OfNum, OfSym, OfLabel, Place, pl
 use Rattle.po_pattern.specs.declared.operands.Operands.{Operands}
 use Rattle.po_pattern.specs.declared.operands.OperandKind.{OperandKind}
 use Rattle.po_pattern.specs.declared.operands.OperandKind.TheVariants.{Register, Constant, Symbol, Label}
-use Rattle.po_pattern.specs.Rests.{Rest, Read, mark}
 use Rattle.po_pattern.specs.Seen.{kind_of, same_kind}
 use Rattle.po_entry.specs.declared.begun.Begun.{Begun}
-use Rattle.po_entry.specs.declared.begun.Mark.{Mark}
 use Rattle.po_entry.specs.EntryText.{is_mark, byte_text, piece_text, template_text}
-use Rattle.po_entry.specs.Words.{is_word_byte, says, after_word, behind_word, keyword}
-use Rattle.po_entry.specs.ListRules.{sets_cc, clobber_may_stand, clobber_in}
-use Rattle.po_entry.specs.Template.{arrow, kind_by, piece_by, is_seen, marked, plain, with_piece, step_with, template_step, template_from, nothing_yet, whole_with, template_in}
+use Rattle.po_entry.specs.ListRules.{sets_cc, clobber_in}
+use Rattle.po_entry.specs.Template.{arrow, kind_by, piece_by, is_seen, template_step, template_from, nothing_yet, whole_with, template_in}
 use Rattle.po_entry.proofs.Told.{sort_of, Tells}
 use Rattle.po_entry.proofs.Noted.{kind_at}
 use Rattle.po_entry.proofs.AgainParts.{at, Again, mark_again, digit_here}
@@ -156,9 +150,6 @@ pieces_again ps seen [] c pieces told small h = ap (λ (x : List Piece). Ok (rec
 pieces_again ps seen (x ∷ xs) c pieces told small h =
     let one = piece_again ps seen x c pieces (template_text xs) told small (All-head (IsPieceOf ps) x xs h) in
     one.1 ∙ pieces_again ps seen xs one.0 (pieces ++ x ∷ []) told small (All-tail (IsPieceOf ps) x xs h) ∙ ap (λ (y : List Piece). Ok (record { pieces = y; waiting = None })) (append_assoc pieces (x ∷ []) xs)
-
-whole_begun : (s : Begun) → s.waiting ≡ None → whole_with s.pieces s.waiting ≡ Ok s.pieces
-whole_begun s e = ap (whole_with s.pieces) e
 
 pub template_again : (ps : List Place) (seen : Operands) (xs : List Piece) (c : ℕ) → Tells seen ps → AreSmall ps → All (IsPieceOf ps) xs → template_in seen (at c (template_text xs)) ≡ Ok xs
 unfolding template_in from_here

@@ -1,8 +1,7 @@
 -- A printed term of a pattern is read as that term, whatever is open around it.
-use Rattle.std.proofs.Common.{◌≡◌, ◌⊎◌, inl, inr, ℕ, ◌+◌, ◌-◌, ◌<◌, ◌≤◌, ◌^◌, ◌==◌, ◌&&◌, ◌||◌, max, Bool, true, false, List, [], ◌∷◌, ◌++◌, length, length-append, append_assoc, take, drop, codes, refl, sym, ap, ◌∙◌, subst, arith, zero, suc, Option, Some, None, Result, Ok}
+use Rattle.std.proofs.Common.{◌≡◌, ◌⊎◌, inl, inr, ℕ, ◌+◌, ◌-◌, ◌<◌, ◌≤◌, ◌^◌, ◌==◌, ◌||◌, max, Bool, true, false, List, [], ◌∷◌, ◌++◌, length, length-append, append_assoc, take, drop, codes, refl, sym, ap, ◌∙◌, subst, arith, Option, Some, None, Result, Ok}
 use Rattle.std.specs.Prelude.{nat_le}
 use Rattle.std.specs.List.{prefix_len}
-use Rattle.std.specs.Fmt.{decimal}
 use Rattle.std.proofs.lemmas.Bool.Decides.{nat_tests}
 use Rattle.std.proofs.lemmas.Fmt.{decimal_digit}
 use Rattle.std.proofs.Math.Seq.{take-append_seam}
@@ -18,12 +17,11 @@ use Rattle.po_term.specs.declared.term.Reg.TheVariants.{Virt, Fp, Rv, Arg}
 use Rattle.po_term.specs.Tree as tree
 use Rattle.po_term.specs.Tree.{Const, Leaf, Unary, Binary, tree_size, tree_depth, EachConst, EachLeaf}
 use Rattle.po_termtext.specs.TermText.{const_text, reg_text, un_text, bin_text}
-use Rattle.po_model.specs.declared.machine.PatReg.{PatReg}
 use Rattle.po_model.specs.declared.machine.PatReg.TheVariants.{Any, Fixed}
 use Rattle.po_model.specs.declared.machine.PatTerm.{PatTerm}
 use Rattle.po_model.specs.declared.machine.PatTerm.TheVariants as pat
 use Rattle.po_model.specs.Patterns.{PatTree, PatConst, Exactly, Operand, PatLeaf, InPatReg, AtSymbol}
-use Rattle.po_model.specs.Entries.{place, OfReg, OfNum, OfSym, has_range, IsFixed, IsPatConst, IsPatLeaf, IsPatTree, const_places, leaf_places, tree_places}
+use Rattle.po_model.specs.Entries.{IsFixed, IsPatConst, IsPatLeaf, IsPatTree, const_places, leaf_places, tree_places}
 use Rattle.po_pattern.specs.declared.operands.Operands.{Operands}
 use Rattle.po_pattern.specs.declared.operands.OperandKind.TheVariants.{Register, Constant, Symbol}
 use Rattle.po_pattern.specs.declared.part.Part.{Part}
@@ -31,15 +29,15 @@ use Rattle.po_pattern.specs.declared.part.Frame.{Frame}
 use Rattle.po_pattern.specs.declared.part.Frame.TheVariants as frame
 use Rattle.po_pattern.specs.declared.part.Turn.{Turn}
 use Rattle.po_pattern.specs.declared.part.Turn.TheVariants.{Opens, Whole}
-use Rattle.po_pattern.specs.Rests.{Rest, Read, behind, skip_blanks, begins, mark}
+use Rattle.po_pattern.specs.Rests.{Read, skip_blanks, mark}
 use Rattle.po_pattern.specs.Seen.{with_operand}
 use Rattle.po_pattern.specs.Parts as parts
 use Rattle.po_pattern.specs.Terms as terms
 use Rattle.po_pattern.specs.Terms.{Reading, kept, memory_part, unary_part, binary_part, leaf, of_register, opening, wanted, named, marked_leaf, operator_of, operator_length, behind_whole, step, steps}
 use Rattle.po_pattern.proofs.Steps.{steps_next, steps_whole}
-use Rattle.po_entry.specs.EntryText.{range_text, pat_reg_text, pat_const_text, pat_leaf_text, pat_term_text}
-use Rattle.po_entry.proofs.Noted.{noted, MayStand, Fits, noted_more, fits_front, fits_back}
-use Rattle.po_entry.proofs.Backs.{back_const, back_leaf, back}
+use Rattle.po_entry.specs.EntryText.{range_text, pat_const_text, pat_leaf_text, pat_term_text}
+use Rattle.po_entry.proofs.Noted.{noted, Fits, noted_more, fits_front, fits_back}
+use Rattle.po_entry.proofs.Backs.{back}
 use Rattle.po_entry.proofs.AgainParts.{at, Again, prefix_again, skip_none, skip_one, mark_again, Stops, NumberFront, signed_front, numeral_again, constant_again, symbol_again, any_again, fixed_again, fixed_name}
 
 -- so many steps lead from one state to another
@@ -113,7 +111,7 @@ exactly_at n c rest seen h stops =
     record {
       column = got.column;
       is = subst (λ (w : List ℕ). parts.numeral (at c (w ++ rest)) seen ≡ Ok (record { value = pat.Num n; rest = at got.column rest; seen = seen })
-              → wanted (at c (w ++ rest)) seen ≡ Ok (leaf (record { value = pat.Num n; rest = at got.column rest; seen = seen }))) (sym f.is) (numeral_wanted f.first f.others rest c seen _ f.begins) got.is;
+          → wanted (at c (w ++ rest)) seen ≡ Ok (leaf (record { value = pat.Num n; rest = at got.column rest; seen = seen }))) (sym f.is) (numeral_wanted f.first f.others rest c seen _ f.begins) got.is;
     }
 
 const_at : (x : PatConst) (c : ℕ) (rest : List ℕ) (seen : Operands) → IsPatConst x → Fits seen (const_places x) → Stops rest → LeafAt (Const x) (wanted (at c (pat_const_text x ++ rest)) seen) rest (noted seen (const_places x))
@@ -383,7 +381,7 @@ between frames o left part whole c m n more a b rest seen middle next made solid
     let one = reaches_more begun inside full 1 first.count (reaches_one begun inside (opened_step frames frame.Left (c + 1) bytes seen first.first solid_a first.opens)) first.reaches in
     let two = reaches_more begun full again (1 + first.count) 1 one (reaches_one full again (left_step frames o left first.column tail middle)) in
     let three = reaches_more begun again within (1 + first.count + 1) 1 two
-            (reaches_one again within (blank_step frames (frame.Right o (Some left)) (first.column + 1 + operator_length o) tail middle second.first solid_b second.opens)) in
+    (reaches_one again within (blank_step frames (frame.Right o (Some left)) (first.column + 1 + operator_length o) tail middle second.first solid_b second.opens)) in
     let four = reaches_more begun within last (1 + first.count + 1 + 1) second.count three second.reaches in
     let five = reaches_more begun last done (1 + first.count + 1 + 1 + second.count) 1 four (reaches_one last done (right_step frames o left part whole second.column rest next made)) in
     record {
@@ -407,7 +405,7 @@ tree_again (tree.Read a) frames c rest seen h g few flat fits stops =
     let inner = tree_again a (frame.Memory ∷ frames) (c + 1 + 0 + 1 + 0) (93 ∷ rest) seen h g (omega (arith, few)) (omega (arith, flat)) fits (record { name = refl; digit = refl; plain = refl }) in
     subst (λ (bytes : List ℕ). TermAt frames (wanted (at c bytes) seen) (part_of (tree.Read a)) rest next (length (pat_term_text (tree.Read a)))) (sym text)
     (around frames frame.Memory (wanted (at c (77 ∷ 91 ∷ (pat_term_text a ++ (93 ∷ rest)))) seen) (part_of a) (part_of (tree.Read a)) (c + 1 + 0 + 1) 93 (length (pat_term_text a)) (length (pat_term_text (tree.Read a)))
-     (pat_term_text a) rest seen next (open_memory c (pat_term_text a ++ (93 ∷ rest)) seen) (term_solid a (93 ∷ rest) h g) (λ d. memory_step frames (part_of a) (part_of (tree.Read a)) d rest next (memory_again a few flat)) inner room)
+    (pat_term_text a) rest seen next (open_memory c (pat_term_text a ++ (93 ∷ rest)) seen) (term_solid a (93 ∷ rest) h g) (λ d. memory_step frames (part_of a) (part_of (tree.Read a)) d rest next (memory_again a few flat)) inner room)
 tree_again (Unary o a) frames c rest seen h g few flat fits stops =
     let next : Operands = noted seen (tree_places a) in
     let text : pat_term_text (Unary o a) ++ rest ≡ un_text o ++ (40 ∷ (pat_term_text a ++ (41 ∷ rest))) = simp append_assoc in
@@ -418,7 +416,7 @@ tree_again (Unary o a) frames c rest seen h g few flat fits stops =
     let inner = tree_again a (frame.Unary o ∷ frames) (c + 3 + 0 + 1 + 0) (41 ∷ rest) seen h g (omega (arith, few)) (omega (arith, flat)) fits (record { name = refl; digit = refl; plain = refl }) in
     subst (λ (bytes : List ℕ). TermAt frames (wanted (at c bytes) seen) (part_of (Unary o a)) rest next (length (pat_term_text (Unary o a)))) (sym text)
     (around frames (frame.Unary o) (wanted (at c (un_text o ++ (40 ∷ (pat_term_text a ++ (41 ∷ rest))))) seen) (part_of a) (part_of (Unary o a)) (c + 3 + 0 + 1) 41 (length (pat_term_text a)) (length (pat_term_text (Unary o a)))
-     (pat_term_text a) rest seen next (open_unary o c (pat_term_text a ++ (41 ∷ rest)) seen) (term_solid a (41 ∷ rest) h g) (λ d. unary_step frames o (part_of a) (part_of (Unary o a)) d rest next (unary_again o a few flat)) inner room)
+    (pat_term_text a) rest seen next (open_unary o c (pat_term_text a ++ (41 ∷ rest)) seen) (term_solid a (41 ∷ rest) h g) (λ d. unary_step frames o (part_of a) (part_of (Unary o a)) d rest next (unary_again o a few flat)) inner room)
 tree_again (Binary o a b) frames c rest seen h g few flat fits stops =
     let middle : Operands = noted seen (tree_places a) in
     let next : Operands = noted middle (tree_places b) in
@@ -433,8 +431,8 @@ tree_again (Binary o a b) frames c rest seen h g few flat fits stops =
     let room : length (pat_term_text a) + length (pat_term_text b) + 4 ≤ length (pat_term_text (Binary o a b)) = omega arith in
     let first = tree_again a (frame.Left ∷ frames) (c + 1 + 0) (32 ∷ (bin_text o ++ (32 ∷ tail))) seen h.0 g.0 (omega (arith, few)) (omega (arith, flat)) (fits_front seen (tree_places a) (tree_places b) fits) (operator_stops o tail) in
     let whole = between frames o (part_of a) (part_of b) (part_of (Binary o a b)) c (length (pat_term_text a)) (length (pat_term_text b)) (length (pat_term_text (Binary o a b))) (pat_term_text a) (pat_term_text b) rest seen middle next
-            (binary_again o a b few flat) (term_solid a (32 ∷ (bin_text o ++ (32 ∷ tail))) h.0 g.0) (term_solid b (41 ∷ rest) h.1 g.1) first
-            (λ d. tree_again b (frame.Right o (Some (part_of a)) ∷ frames) d (41 ∷ rest) middle h.1 g.1 (omega (arith, few)) (omega (arith, flat)) fits_b (record { name = refl; digit = refl; plain = refl })) room in
+    (binary_again o a b few flat) (term_solid a (32 ∷ (bin_text o ++ (32 ∷ tail))) h.0 g.0) (term_solid b (41 ∷ rest) h.1 g.1) first
+    (λ d. tree_again b (frame.Right o (Some (part_of a)) ∷ frames) d (41 ∷ rest) middle h.1 g.1 (omega (arith, few)) (omega (arith, flat)) fits_b (record { name = refl; digit = refl; plain = refl })) room in
     subst (λ (s : Operands). TermAt frames (wanted (at c (pat_term_text (Binary o a b) ++ rest)) seen) (part_of (Binary o a b)) rest s (length (pat_term_text (Binary o a b)))) (sym (noted_more seen (tree_places a) (tree_places b)))
     (subst (λ (bytes : List ℕ). TermAt frames (wanted (at c bytes) seen) (part_of (Binary o a b)) rest next (length (pat_term_text (Binary o a b)))) (sym text) whole)
 
@@ -451,7 +449,7 @@ term_again t c rest seen h fits stops =
     let long = length-append (pat_term_text t) rest in
     let last : Reading = turn_at [] (Whole (Some (part_of t))) got.column rest (noted seen (tree_places t)) in
     let all : steps (length (pat_term_text t ++ rest)) (record { frames = []; turn = got.first }) ≡ Ok last =
-            got.reaches.go (length (pat_term_text t ++ rest)) (omega (arith, few, long)) ∙ steps_whole (length (pat_term_text t ++ rest) - got.count) last refl in
+    got.reaches.go (length (pat_term_text t ++ rest)) (omega (arith, few, long)) ∙ steps_whole (length (pat_term_text t ++ rest) - got.count) last refl in
     record { column = got.column; is = rw (none, opens) (rw all refl) }
 
 pub address_again : (t : PatTree) (c : ℕ) (rest : List ℕ) (seen : Operands) → IsPatTree t → Fits seen (tree_places t)

@@ -1,10 +1,7 @@
 -- The term of a pattern from its plain tree.
-use Rattle.std.proofs.Common.{◌≡◌, ℕ, Option, ℤ, refl, ap, ◌∙◌, subst}
-use Rattle.po_word.specs.declared.operator.Un.{Un}
-use Rattle.po_word.specs.declared.operator.Bin.{Bin}
+use Rattle.std.proofs.Common.{◌≡◌, ap, ◌∙◌, subst}
 use Rattle.po_term.specs.Tree.{Const, Leaf, Read, Unary, Binary}
 use denote.Hole.Carrier.{roll}
-use Rattle.po_model.specs.declared.machine.PatReg.{PatReg}
 use Rattle.po_model.specs.declared.machine.PatTerm.{PatTerm, roll-PatTerm}
 use Rattle.po_model.specs.declared.machine.PatTerm.TheVariants as pat
 use Rattle.po_model.specs.declared.machine.PatTerm.TheOpen.{PatTerm-F}

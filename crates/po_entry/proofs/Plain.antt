@@ -1,5 +1,5 @@
 -- No printed entry has a control character.
-use Rattle.std.proofs.Common.{◌≡◌, ℕ, ◌+◌, ◌<◌, ◌≤◌, ◌^◌, ◌&&◌, Bool, true, false, nat_le, List, [], ◌∷◌, ◌++◌, map, All, codes, refl, sym, ap, ◌∙◌, subst, arith, suc, Option, Some, None, ℤ, pos, negsuc}
+use Rattle.std.proofs.Common.{◌≡◌, ℕ, ◌<◌, ◌≤◌, ◌^◌, Bool, true, false, nat_le, List, [], ◌∷◌, ◌++◌, map, All, codes, refl, arith, suc, Option, Some, None, ℤ, pos, negsuc}
 use Rattle.std.specs.Prelude.{◌≤ℤ◌}
 use Rattle.std.specs.List.{AllByRecursion, list_all, flat_map}
 use Rattle.std.specs.Fmt.{decimal, signed_decimal}
@@ -16,14 +16,14 @@ use Rattle.po_word.specs.declared.operator.Rel.TheVariants.{Eq, Ne, Lt, Le, Gt, 
 use Rattle.po_name.specs.Names.{is_digit}
 use Rattle.po_term.specs.declared.term.Reg.TheVariants.{Virt, Fp, Rv, Arg}
 use Rattle.po_term.specs.Tree as tree
-use Rattle.po_termtext.specs.TermText.{un_text, bin_text, rel_text, joined}
+use Rattle.po_termtext.specs.TermText.{un_text, bin_text, rel_text}
 use Rattle.po_termtext.proofs.Numbers.{decimal_digits}
 use Rattle.po_model.specs.declared.machine.PatReg.{PatReg}
 use Rattle.po_model.specs.declared.machine.PatReg.TheVariants.{Any, Fixed}
 use Rattle.po_model.specs.declared.machine.Piece.{Piece}
 use Rattle.po_model.specs.declared.machine.Piece.TheVariants as piece
 use Rattle.po_model.specs.declared.machine.Entry.{Entry}
-use Rattle.po_model.specs.Patterns.{PatTree, PatConst, Exactly, Operand, PatLeaf, InPatReg, AtSymbol, PatMove, SetsTo, Compares, Stores, Jumps, Branches, BranchesOn, Calls, Returns, pat_moves_of}
+use Rattle.po_model.specs.Patterns.{PatTree, PatConst, Exactly, Operand, InPatReg, AtSymbol, PatMove, SetsTo, Compares, Stores, Jumps, Branches, BranchesOn, Calls, Returns, pat_moves_of}
 use Rattle.po_model.specs.Entries.{OfReg, OfNum, OfSym, OfLabel, Place, HasRange, IsPatReg, IsPatConst, IsPatLeaf, IsPatTree, IsPatMove, IsPieceOf, places_of, IsEntry}
 use Rattle.po_entry.specs.EntryText.{operand_text, pat_reg_text, range_text, pat_const_text, pat_term_text, pat_move_text, pattern_text, clobber_text, is_mark, byte_text, piece_text, template_text, entry_text}
 use Rattle.po_entry.proofs.AgainParts.{IsSigned, small_pos, small_neg, le_from, le_through, word_signed}
