@@ -1,5 +1,8 @@
-//! Whole runs of the top call, as tables: each line of a table is an input with what the program must answer.
+//! Tests that cross crates, as tables: whole runs of the top call, each line an input with what the program must answer, and what
+//! is live in small codes.
 #![tactic(auto)]
 
+#[cfg(test)]
+mod liveness;
 #[cfg(test)]
 mod naive;
