@@ -12,7 +12,7 @@ use std::test::Fail;
 
 /// Codes by their blocks, in which a digit is the block's label and each letter an instruction (`transfer` says which); and what is
 /// live after each instruction.
-const CODES: [(&[&str], &str); 6] = [
+const CODES: [(&[&str], &str); 7] = [
     // a straight block
     (&["zuvr"], "v0 fp;v1 fp;fp rv;fp;"),
     // a loop, at whose end v0 is live since its start reads it
@@ -32,6 +32,8 @@ const CODES: [(&[&str], &str); 6] = [
     ),
     // behind a jump to a label that no block has nothing is read
     (&["zg", "ur"], "fp;fp;fp rv;fp;"),
+    // through a block that has only a label
+    (&["zg", "1", "ur"], "v0 fp rv;v0 fp rv;fp rv;fp;"),
     // the first of two blocks with one label
     (&["zg", "1ur", "1r"], "v0 fp rv;v0 fp rv;fp rv;fp;fp;"),
 ];
