@@ -405,6 +405,57 @@ fn is_too_long(rt: HostRuntime) -> Result<(), Fail> {
     Ok(())
 }
 
+fn push_times(text: &mut Vec<u8>, part: &str, times: u32) -> Result<(), Fail> {
+    for _ in 0..times {
+        text.extend_from_slice(part.as_bytes())?;
+    }
+    Ok(())
+}
+
+/// A line of 4,097 bytes; the longest unit, and one that is longer.
+#[test]
+fn keeps_to_the_limits(rt: HostRuntime) -> Result<(), Fail> {
+    let wide = Streams {
+        most: 65536,
+        read_fails: 0,
+        write_fails: 0,
+        room: 400000,
+    };
+    let mut text = text_of(rt.alloc(), &[TINY, "unit f\n"])?;
+    push_times(&mut text, "a", 4097)?;
+    let ended = run(rt.alloc(), "naive", text, &wide)?;
+    let long_line = Status::BadText {
+        line: 32,
+        col: 4097,
+        kind: Kind::TooMany,
+    };
+    assert_eq!(rt; ended.status, long_line);
+
+    let mut text = text_of(rt.alloc(), &[TINY, "unit f\n"])?;
+    push_times(&mut text, "con 1\npop\n", 32767)?;
+    push_times(&mut text, "con 1\nret\nend\n", 1)?;
+    let ended = run(rt.alloc(), "naive", text, &wide)?;
+    assert_eq!(rt; ended.status, Status::Done);
+    assert!(rt;
+        ended
+            .sink
+            .kept()
+            .ends_with(b"\n  li r0,1\n  mov rv,r0\n  ret\n")
+    );
+
+    let mut text = text_of(rt.alloc(), &[TINY, "unit f\n"])?;
+    push_times(&mut text, "con 1\npop\n", 32768)?;
+    push_times(&mut text, "con 1\nret\nend\n", 1)?;
+    let ended = run(rt.alloc(), "naive", text, &wide)?;
+    let too_many = Status::BadText {
+        line: 65568,
+        col: 1,
+        kind: Kind::TooMany,
+    };
+    assert_eq!(rt; ended.status, too_many);
+    Ok(())
+}
+
 /// As many values at once as the largest machine has registers.
 #[test]
 fn fills_the_largest_machine(rt: HostRuntime) -> Result<(), Fail> {
