@@ -2,3 +2,4 @@ pub mod Reads
 pub mod Spans
 pub mod Places
 pub mod Refusals
+pub mod PlacedRuns

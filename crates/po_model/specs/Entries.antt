@@ -2,7 +2,7 @@
 use Rattle.std.specs.Prelude.{ℕ, ◌<◌, ◌≤◌, ◌≡◌, ◌≢◌, ◌^◌, ℤ, pos, negsuc, int_le, List, [], ◌∷◌, ◌++◌, length, flat_map, All, AllPairs, Contains, Bool, true, false, IsTrue, Option, Some, None, ⊤}
 use Rattle.po_term.specs.declared.term.Reg.{Reg as Register}
 use Rattle.po_term.specs.declared.term.Reg.TheVariants.{Virt, Fp, Rv, Arg}
-use Rattle.po_term.specs.Tree.{Tree, Const, Leaf, Read, Unary, Binary, tree_size, tree_depth, EachConst, EachLeaf}
+use Rattle.po_term.specs.Tree.{Const, Leaf, Read, Unary, Binary, tree_size, tree_depth, EachConst, EachLeaf}
 use Rattle.po_model.specs.declared.machine.PatReg.{PatReg}
 use Rattle.po_model.specs.declared.machine.PatReg.TheVariants as register
 use Rattle.po_model.specs.declared.machine.Piece.{Piece}

@@ -11,8 +11,7 @@ use Rattle.po_word.specs.Words.{signed}
 use Rattle.po_term.specs.declared.term.Reg.{Reg as Register}
 use Rattle.po_term.specs.declared.term.Reg.TheVariants.{Virt, Fp, Rv, Arg}
 use Rattle.po_term.specs.declared.term.Sym.{Sym as Symbol}
-use Rattle.po_term.specs.declared.term.Label.{Label as Target}
-use Rattle.po_term.specs.Kinds.{Met, words, ask, give, and_then}
+use Rattle.po_term.specs.Kinds.{Met, words, give, and_then}
 use Rattle.po_term.specs.Simplified.{reg_eq}
 use Rattle.po_term.specs.Terms.{Place}
 use Rattle.po_term.specs.Moves.{Move}

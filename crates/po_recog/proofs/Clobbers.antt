@@ -1,5 +1,5 @@
 -- An entry that clobbers cc fits where cc is dead or not at all.
-use Rattle.std.proofs.Common.{◌≡◌, ℕ, Bool, true, false, List, [], ◌∷◌, Option, Some, None, suc, refl}
+use Rattle.std.proofs.Common.{ℕ, Bool, true, false, List, [], ◌∷◌, Option, Some, None, suc, refl}
 use Rattle.std.specs.Prelude.{◌&&◌, if◌then◌else◌, IsSome}
 use Rattle.po_term.specs.declared.term.Reg.{Reg as Register}
 use Rattle.po_term.specs.declared.term.Sym.{Sym as Symbol}

@@ -1,5 +1,5 @@
 -- Simplifying adds no leaf: what holds of each register and symbol of the operands holds of each one of what a constructor makes.
-use Rattle.std.specs.Prelude.{Bool, true, false, if◌then◌else◌, ⊤}
+use Rattle.std.specs.Prelude.{Bool, true, false, if◌then◌else◌}
 use Rattle.po_word.specs.declared.operator.Un.{Un}
 use Rattle.po_word.specs.declared.operator.Un.TheVariants.{Neg, Not}
 use Rattle.po_word.specs.declared.operator.Bin.{Bin}

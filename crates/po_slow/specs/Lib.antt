@@ -1,2 +1,3 @@
 pub mod KeepsEffect
 pub mod Laws
+pub mod Passes

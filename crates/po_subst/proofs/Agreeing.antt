@@ -8,12 +8,11 @@ use Rattle.po_word.specs.declared.operator.Bin.{Bin}
 use Rattle.po_word.specs.declared.operator.Bin.TheVariants.{Add, Sub, Mul, And, Or, Xor, Shl, Sar, Shr}
 use Rattle.po_term.specs.declared.term.Reg.{Reg as Register}
 use Rattle.po_term.specs.declared.term.Reg.TheVariants.{Virt, Fp, Rv, Arg}
-use Rattle.po_term.specs.declared.term.Sym.{Sym}
 use Rattle.po_term.specs.Tree.{Tree, Const, Leaf, Read, Unary, Binary}
 use Rattle.po_term.specs.Terms.{Place, InReg, AtSym}
 use Rattle.po_term.specs.Kinds.{words, Met, give, and_then}
 use Rattle.po_term.specs.Simplified.{reg_eq, same_register}
-use Rattle.po_model.specs.Tests.{un_eq, bin_eq, un_place, bin_place}
+use Rattle.po_model.specs.Tests.{un_eq, bin_eq, bin_place}
 use Rattle.po_model.specs.Parts.{same_place, plainly}
 use Rattle.po_model.specs.Forward.{agree}
 

@@ -1,9 +1,9 @@
 -- A list of transfers that is worth in one state what another is worth in another: its parts are there alike, and their terms have
 -- the same words. Simplifying an instruction, and forwarding one through another, make such lists.
 use Rattle.std.proofs.Common.{◌≡◌, ℕ, Bool, true, false, List, [], ◌∷◌, ◌++◌, refl, sym, ◌∙◌, ap, subst, eq-eqb, ne_eqb}
-use Rattle.std.specs.Prelude.{◌==◌, not, ◌||◌, ◌&&◌, is_some, if◌then◌else◌, Option, Some, None, ⊤}
+use Rattle.std.specs.Prelude.{◌||◌, is_some, if◌then◌else◌, Option, Some, None, ⊤}
 use Rattle.std.specs.List.{list_any}
-use Rattle.std.proofs.lemmas.Bool.{false≢true, true≢false}
+use Rattle.std.proofs.lemmas.Bool.{true≢false}
 use Rattle.po_word.specs.declared.operator.Rel.{Rel}
 use Rattle.po_word.specs.Words.{rel_value}
 use Rattle.po_term.specs.declared.term.Alias.{Alias}
@@ -20,11 +20,10 @@ use Rattle.po_simplify.proofs.Worths.{unary_worth, binary_worth, simple_worth}
 use Rattle.po_model.specs.Parts.{plainly, right_at, cc_of, store_of, ending_of}
 use Rattle.po_model.specs.Forward.{with_some, and_some, some_of, alias_of, by_alias, read_after, right_or, forward}
 use Rattle.po_model.specs.Meets.{Meets}
-use Rattle.po_model.specs.Effect.{Word, Control, Next, Jump, new_word, new_memory, new_cc, after, goes, branch, by_cc}
+use Rattle.po_model.specs.Effect.{Word, Control, new_word, new_memory, new_cc, after, goes, branch, by_cc}
 use Rattle.po_model.specs.Joined.{is_control, is_away, forward_branch, forward_move, forward_moves}
 use Rattle.po_subst.specs.Found.{Step}
 use Rattle.po_subst.proofs.Meeting.{alias_right}
-use Rattle.po_subst.proofs.Lookups.{right_append, cc_append, store_append, ending_append}
 
 -- P of what there is, if there is something
 abbrev pub Where : {A : Type 0} → Option A → (A → Type 0) → Type 0

@@ -9,11 +9,11 @@ use Rattle.po_term.specs.declared.term.Reg.{Reg as Register}
 use Rattle.po_term.specs.declared.term.Alias.{Alias}
 use Rattle.po_term.specs.declared.term.Alias.TheVariants.{Same, Apart, Maybe}
 use Rattle.po_term.specs.declared.term.Label.{Label}
-use Rattle.po_term.specs.Tree.{Tree, Const, Leaf, Read, Unary, Binary, EachLeaf}
+use Rattle.po_term.specs.Tree.{Const, Leaf, Read, Unary, Binary, EachLeaf}
 use Rattle.po_term.specs.Terms.{Place, InReg}
 use Rattle.po_term.specs.Moves.{GoTo, IfCc, IfTwo, CallOf, Return, SetTo, CcTo, StoreTo, Ends}
 use Rattle.po_term.specs.Kinds.{words, Met, give}
-use Rattle.po_term.specs.Simplified.{same_register, unary_of, binary_of, simple, decided, simple_move, simple_moves}
+use Rattle.po_term.specs.Simplified.{same_register, unary_of, binary_of, decided, simple_move, simple_moves}
 use Rattle.po_simplify.proofs.Leaves.{unary_leaves, binary_leaves, simple_leaves}
 use Rattle.po_model.specs.Parts.{plainly, right_at, cc_of, store_of}
 use Rattle.po_model.specs.Forward.{and_some, some_of, alias_of, by_alias, read_after, right_or, forward}

@@ -1,16 +1,15 @@
 -- What is left of an instruction without what isn't live.
-use Rattle.std.proofs.Common.{◌≡◌, ℕ, Bool, true, false, List, [], ◌∷◌, map, refl, sym, ◌∙◌, ap}
-use Rattle.std.specs.Prelude.{not, ◌&&◌, ◌||◌, if◌then◌else◌, Option, Some, None, is_some, filter}
+use Rattle.std.proofs.Common.{◌≡◌, ℕ, Bool, true, false, List, [], ◌∷◌, refl, sym, ◌∙◌, ap}
+use Rattle.std.specs.Prelude.{not, ◌&&◌, ◌||◌, if◌then◌else◌, Some, is_some, filter}
 use Rattle.std.specs.List.{list_any}
 use Rattle.std.proofs.lemmas.Bool.{false≢true}
 use Rattle.po_term.specs.declared.transfer.Transfer.{Transfer}
 use Rattle.po_term.specs.declared.term.Reg.{Reg as Register}
 use Rattle.po_term.specs.declared.term.Sym.{Sym}
-use Rattle.po_term.specs.Tree.{Tree}
 use Rattle.po_term.specs.Terms.{Place, InReg}
 use Rattle.po_term.specs.Moves.{Move, SetTo, CcTo, StoreTo, Ends, move_of, moves_of}
-use Rattle.po_term.specs.Simplified.{reg_eq, same_register}
-use Rattle.po_model.specs.Parts.{plainly, right_at, cc_of, store_of, ending_of}
+use Rattle.po_term.specs.Simplified.{reg_eq}
+use Rattle.po_model.specs.Parts.{plainly, right_at, cc_of, store_of}
 use Rattle.po_model.specs.Joined.{is_wanted}
 use Rattle.po_subst.proofs.Agreeing.{one_register}
 

@@ -1,6 +1,6 @@
 -- The list that two well-formed instructions come to has the form of an instruction.
-use Rattle.std.proofs.Common.{◌≡◌, ◌≢◌, ℕ, ◌<◌, ◌≤◌, ◌^◌, Bool, true, false, List, [], ◌∷◌, ◌++◌, All, AllPairs, refl, sym, ◌∙◌, ap, subst, arith}
-use Rattle.std.specs.Prelude.{◌||◌, if◌then◌else◌, Option, Some, None, is_some, filter, Contains, ⊤}
+use Rattle.std.proofs.Common.{◌≡◌, ◌≢◌, ℕ, ◌<◌, ◌≤◌, Bool, true, false, List, [], ◌∷◌, ◌++◌, All, AllPairs, refl, sym, ◌∙◌, ap, subst, arith}
+use Rattle.std.specs.Prelude.{◌||◌, if◌then◌else◌, Some, None, is_some, filter, Contains, ⊤}
 use Rattle.std.specs.List.{list_any}
 use Rattle.std.proofs.lemmas.Bool.{false≢true, true≢false}
 use Rattle.std.proofs.lemmas.List.Elements.{All-nil, All-cons, All-head, All-tail, All-append, All-weaker, All-filter, filter_passes, Contains-append_left, Contains-append_right}
@@ -10,13 +10,13 @@ use Rattle.po_term.specs.declared.term.Reg.{Reg as Register}
 use Rattle.po_term.specs.declared.term.Reg.TheVariants.{Fp}
 use Rattle.po_term.specs.declared.term.Sym.{Sym}
 use Rattle.po_term.specs.declared.term.Label.{Label}
-use Rattle.po_term.specs.Tree.{Tree, Const, Leaf, Read, Unary, Binary, EachLeaf}
+use Rattle.po_term.specs.Tree.{Const, Leaf, Read, Unary, Binary, EachLeaf}
 use Rattle.po_term.specs.Terms.{Place, InReg, AtSym}
 use Rattle.po_term.specs.Moves.{GoTo, IfCc, IfTwo, CallOf, Return, SetTo, CcTo, StoreTo, Ends}
 use Rattle.po_term.specs.Kinds.{words}
 use Rattle.po_term.specs.Simplified.{reg_eq}
 use Rattle.po_term.specs.Actions.{MoveHasWords, MovesHaveWords}
-use Rattle.po_term.specs.Form.{IsRegister, IsPlace, IsLabel, kind_of, Sets, GoesBefore, WellFormedMove, WellFormed}
+use Rattle.po_term.specs.Form.{IsRegister, IsPlace, IsLabel, kind_of, GoesBefore, WellFormedMove, WellFormed}
 use Rattle.po_term.proofs.FormLemmas.{pairs_more}
 use Rattle.po_model.specs.declared.var.Var.{Var}
 use Rattle.po_model.specs.declared.var.Var.TheVariants.{Reg, Cc}
@@ -26,7 +26,7 @@ use Rattle.po_model.specs.LiveAfter.{sets, move_sets}
 use Rattle.po_model.specs.Joined.{is_set, is_cc, is_store, is_control, is_away, is_wanted, is_kept, in_order, assembled, forward_moves, joined}
 use Rattle.po_subst.specs.Found.{Step}
 use Rattle.po_subst.specs.Order.{is_moving}
-use Rattle.po_subst.specs.KeepsEffect.{OfList, labels_in, term_syms, ending_labels, ending_syms, syms_in, TermInRange, MoveInRange, HasForm}
+use Rattle.po_subst.specs.KeepsEffect.{OfList, labels_in, term_syms, ending_labels, ending_syms, syms_in, MoveInRange, HasForm}
 use Rattle.po_subst.proofs.Agreeing.{reg_self}
 use Rattle.po_subst.proofs.Alike.{IsSingle, Alike, where_at, or_false, like_some, two_some}
 use Rattle.po_subst.proofs.Joint.{simplified, wanted, Joining, joined_where}

@@ -1,9 +1,7 @@
 -- Aliasing and forwarding read over one kind of constants follow those read over another.
-use Rattle.std.proofs.Common.{◌≡◌, ℕ, Bool, true, false, List, [], ◌∷◌, map, refl, sym, ◌∙◌, ap, subst}
+use Rattle.std.proofs.Common.{◌≡◌, Bool, true, false, List, [], ◌∷◌, map, refl, ◌∙◌, ap}
 use Rattle.std.specs.Prelude.{if◌then◌else◌, Option, Some, None}
 use Rattle.std.specs.Option.{option_map}
-use Rattle.po_word.specs.declared.operator.Un.{Un}
-use Rattle.po_word.specs.declared.operator.Bin.{Bin}
 use Rattle.po_word.specs.declared.operator.Bin.TheVariants.{Add}
 use Rattle.po_word.specs.Exprs.{Zero}
 use Rattle.po_word.specs.Exprs as asked
@@ -12,7 +10,7 @@ use Rattle.po_term.specs.declared.term.Alias.TheVariants.{Same, Apart, Maybe}
 use Rattle.po_term.specs.Tree.{tree_map, Tree, Const, Leaf, Read, Unary, Binary}
 use Rattle.po_term.specs.Moves.{Move, SetTo, CcTo, StoreTo, Ends}
 use Rattle.po_term.specs.MoveMap.{move_map}
-use Rattle.po_term.specs.Kinds.{Kind, Met, give, and_then, ask}
+use Rattle.po_term.specs.Kinds.{Kind, Met, give, and_then}
 use Rattle.po_term.specs.Simplified.{unary_of, binary_of}
 use Rattle.po_simplify.proofs.Follows.{Carries, Follows, ask-follows, and_then-follows, unary_of-follows, binary_of-follows}
 use Rattle.po_model.specs.Tests.{un_eq, bin_eq}

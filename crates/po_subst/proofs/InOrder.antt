@@ -1,13 +1,13 @@
 -- The transfers by kind, one kind after the other, are those of the list in order.
-use Rattle.std.proofs.Common.{◌≡◌, ℕ, Bool, true, false, List, [], ◌∷◌, ◌++◌, refl, sym, ◌∙◌, ap, append-nil}
-use Rattle.std.specs.Prelude.{if◌then◌else◌, filter, not}
+use Rattle.std.proofs.Common.{◌≡◌, Bool, true, false, List, [], ◌∷◌, ◌++◌, refl, sym, ◌∙◌, ap, append-nil}
+use Rattle.std.specs.Prelude.{if◌then◌else◌, filter}
 use Rattle.std.proofs.lemmas.List.Elements.{filter-append}
 use Rattle.po_term.specs.declared.term.Reg.{Reg as Register}
 use Rattle.po_model.specs.Parts.{plainly}
-use Rattle.po_model.specs.Joined.{is_set, is_cc, is_store, is_control, is_idle, is_wanted, is_kept, in_order, assembled}
+use Rattle.po_model.specs.Joined.{is_set, is_cc, is_store, is_control, is_wanted, in_order, assembled}
 use Rattle.po_subst.specs.declared.order.ByKind.{ByKind}
 use Rattle.po_subst.specs.Found.{Step}
-use Rattle.po_subst.specs.Order.{Kinds, kinds_of, with_rest, listing, kept_beside, is_moving}
+use Rattle.po_subst.specs.Order.{kinds_of, with_rest, listing, kept_beside, is_moving}
 
 filter_swap : (p q : Step → Bool) (ms : List Step) → filter p (filter q ms) ≡ filter q (filter p ms)
 filter_swap p q [] = refl

@@ -1,11 +1,10 @@
 -- Joining read over one kind of constants follows joining read over another.
-use Rattle.std.proofs.Common.{◌≡◌, ℕ, Bool, true, false, List, [], ◌∷◌, ◌++◌, map, refl, sym, ◌∙◌, ap}
-use Rattle.std.specs.Prelude.{if◌then◌else◌, not, ◌&&◌, ◌||◌, Option, Some, None, is_some, filter}
+use Rattle.std.proofs.Common.{◌≡◌, Bool, true, false, List, [], ◌∷◌, ◌++◌, map, refl, sym, ◌∙◌, ap}
+use Rattle.std.specs.Prelude.{if◌then◌else◌, not, ◌||◌, Option, Some, None, is_some, filter}
 use Rattle.std.specs.List.{list_any}
 use Rattle.std.specs.Option.{option_map}
 use Rattle.po_word.specs.declared.operator.Rel.{Rel}
 use Rattle.po_term.specs.declared.term.Alias.{Alias}
-use Rattle.po_term.specs.declared.term.Alias.TheVariants as alias
 use Rattle.po_term.specs.declared.term.Label.{Label}
 use Rattle.po_term.specs.Tree.{tree_map, Tree, Const, Leaf, Read, Unary, Binary}
 use Rattle.po_term.specs.Moves.{GoTo, IfCc, IfTwo, CallOf, Return, Move, SetTo, CcTo, StoreTo, Ends}
@@ -17,7 +16,7 @@ use Rattle.po_simplify.proofs.MoveFollows.{decided-follows, simple_moves-follows
 use Rattle.po_model.specs.Parts.{Sameness, cc_of, store_of, right_at}
 use Rattle.po_model.specs.Forward.{and_some, some_of, alias_of, forward}
 use Rattle.po_model.specs.Joined.{Joint, NotJoined, NothingLeft, AsOne, is_same, covers, is_set, is_cc, is_store, is_control, is_away, in_order, is_idle, listed, is_wanted, is_kept, assembled, forward_branch, forward_move, forward_moves, with_forwarded, join_simple, joined}
-use Rattle.po_subst.proofs.ForwardFollows.{if-follows, and_some-follows, some_of-follows, Matches, two_map, alias_of-follows, cc_of-map, store_of-map, right_at-map, forward-follows}
+use Rattle.po_subst.proofs.ForwardFollows.{if-follows, and_some-follows, some_of-follows, Matches, alias_of-follows, cc_of-map, store_of-map, right_at-map, forward-follows}
 
 is_some-map : {A B : Type 0} (h : A → B) (o : Option A) → is_some (option_map h o) ≡ is_some o
 is_some-map h None = refl

@@ -1,18 +1,18 @@
 -- What is known where two instructions come to one list, and what of the first stays beside the second.
-use Rattle.std.proofs.Common.{◌≡◌, ℕ, Bool, true, false, List, [], ◌∷◌, ◌++◌, All, AllPairs, refl, sym, ◌∙◌, ap, subst, arith}
-use Rattle.std.specs.Prelude.{not, ◌||◌, ◌&&◌, is_some, if◌then◌else◌, Option, Some, None, filter, ⊤}
+use Rattle.std.proofs.Common.{◌≡◌, ℕ, Bool, true, false, List, [], ◌∷◌, ◌++◌, All, AllPairs, refl, sym, ◌∙◌, ap, arith}
+use Rattle.std.specs.Prelude.{not, ◌||◌, ◌&&◌, is_some, if◌then◌else◌, Option, Some, None, filter}
 use Rattle.std.specs.List.{list_any}
 use Rattle.std.specs.Option.{option_or}
-use Rattle.std.proofs.lemmas.Bool.{false≢true, true≢false}
+use Rattle.std.proofs.lemmas.Bool.{false≢true}
 use Rattle.std.proofs.lemmas.List.Elements.{All-head, All-tail}
 use Rattle.po_term.specs.declared.term.Reg.{Reg as Register}
 use Rattle.po_term.specs.declared.term.Sym.{Sym}
-use Rattle.po_term.specs.Tree.{Tree, Const, Leaf, Read, Unary, Binary}
-use Rattle.po_term.specs.Terms.{Place, InReg, AtSym, State}
+use Rattle.po_term.specs.Tree.{Const, Leaf, Read, Unary, Binary}
+use Rattle.po_term.specs.Terms.{Place, InReg, State}
 use Rattle.po_term.specs.Moves.{GoTo, IfCc, IfTwo, CallOf, Return, SetTo, CcTo, StoreTo, Ends}
 use Rattle.po_term.specs.Kinds.{words, give, and_then}
 use Rattle.po_term.specs.Simplified.{reg_eq, same_register, simple_moves}
-use Rattle.po_term.specs.Form.{GoesBefore, WellFormedMove, WellFormed}
+use Rattle.po_term.specs.Form.{GoesBefore, WellFormedMove}
 use Rattle.po_term.specs.Actions.{MoveHasWords, MovesHaveWords}
 use Rattle.po_term.proofs.FormLemmas.{pairs_more}
 use Rattle.po_model.specs.Parts.{plainly, right_at, cc_of, store_of, ending_of}
@@ -24,8 +24,8 @@ use Rattle.po_subst.specs.Order.{is_moving}
 use Rattle.po_subst.specs.KeepsEffect.{OfList}
 use Rattle.po_subst.proofs.Agreeing.{one_register, one_place}
 use Rattle.po_subst.proofs.InOrder.{listing_moving}
-use Rattle.po_subst.proofs.Lookups.{right_in, cc_in, store_in, ending_in, right_filter, cc_filter, store_filter, ending_filter, right_none, cc_none, store_none, ending_none, right_append, cc_append, store_append, ending_append, right_order, cc_order, store_order, ending_order}
-use Rattle.po_subst.proofs.Alike.{Two, IsSingle, single_rest, none_of, or_false}
+use Rattle.po_subst.proofs.Lookups.{right_in, cc_in, store_in, ending_in, right_filter, cc_filter, store_filter, ending_filter, right_none, cc_none, store_none, ending_none, right_append, cc_append, store_append, right_order, cc_order, store_order, ending_order}
+use Rattle.po_subst.proofs.Alike.{IsSingle, none_of, or_false}
 
 module _ (live : Register → Bool) (cc_live : Bool) (a b : List Step) where
   -- A simplified, and B without what isn't live

@@ -1,13 +1,13 @@
 -- The list that two instructions come to does what they do.
-use Rattle.std.proofs.Common.{◌≡◌, ℕ, Bool, true, false, List, [], ◌∷◌, ◌++◌, refl, sym, ◌∙◌, ap, subst, lit<}
+use Rattle.std.proofs.Common.{◌≡◌, ℕ, Bool, true, false, List, ◌++◌, refl, sym, ◌∙◌, ap, subst, lit<}
 use Rattle.std.specs.Prelude.{◌==◌, not, ◌||◌, ◌&&◌, is_some, if◌then◌else◌, Option, Some, None, filter}
 use Rattle.std.specs.Option.{option_or}
 use Rattle.std.proofs.Math.Path.{fun_ext}
-use Rattle.std.proofs.lemmas.Bool.{false≢true, true≢false}
+use Rattle.std.proofs.lemmas.Bool.{false≢true}
 use Rattle.po_term.specs.declared.term.Reg.{Reg as Register}
 use Rattle.po_term.specs.declared.term.Alias.{Alias}
 use Rattle.po_term.specs.declared.term.Alias.TheVariants.{Same, Apart, Maybe}
-use Rattle.po_term.specs.Terms.{Place, InReg, AtSym, State, IsState, value}
+use Rattle.po_term.specs.Terms.{Place, State, IsState, value}
 use Rattle.po_term.specs.Kinds.{words}
 use Rattle.po_term.specs.Actions.{MovesHaveWords}
 use Rattle.po_term.specs.Form.{WellFormed}
@@ -22,8 +22,8 @@ use Rattle.po_subst.specs.Order.{is_moving}
 use Rattle.po_subst.specs.KeepsEffect.{OfList}
 use Rattle.po_subst.proofs.Meeting.{alias_right}
 use Rattle.po_subst.proofs.Lookups.{right_append, cc_append, store_append, ending_append}
-use Rattle.po_subst.proofs.Alike.{Two, TwoHasWords, LikeRight, LikePair, LikeTwo, IsSingle, Alike, where_at, like_some, two_some, simple_alike, forward_alike, store_words}
-use Rattle.po_subst.proofs.Joint.{simplified, wanted, Joining, joined_where, single_of, words_of, words_append, words_filter, none_filter, single_filter, right_wanted_at, cc_wanted_of, store_wanted_of, ending_wanted_of, stays_at, right_kept_at, cc_kept_of, store_kept_of, ending_kept_of, single_beside, moving_word, right_listed, cc_listed, store_listed, ending_listed}
+use Rattle.po_subst.proofs.Alike.{Two, TwoHasWords, LikeRight, LikeTwo, IsSingle, Alike, where_at, like_some, two_some, simple_alike, forward_alike, store_words}
+use Rattle.po_subst.proofs.Joint.{simplified, wanted, Joining, joined_where, single_of, words_of, words_append, words_filter, none_filter, single_filter, right_wanted_at, cc_wanted_of, store_wanted_of, ending_wanted_of, right_kept_at, cc_kept_of, store_kept_of, ending_kept_of, single_beside, moving_word, right_listed, cc_listed, store_listed, ending_listed}
 
 -- the state after a list, and after one that is like it in the same state
 word_alike : (s : State) (o p : Option Word) (w : ℕ) → LikeRight s s o p → new_word s p w ≡ new_word s o w

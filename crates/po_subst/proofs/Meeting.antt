@@ -1,14 +1,14 @@
 -- The answer on two addresses is right in every state of words.
-use Rattle.std.proofs.Common.{◌≡◌, ℕ, ◌+◌, ◌%◌, ◌^◌, ◌<◌, Bool, true, false, refl, sym, ◌∙◌, ap, arith, subst}
+use Rattle.std.proofs.Common.{◌≡◌, ℕ, ◌^◌, ◌<◌, Bool, true, false, refl, sym, ap, arith}
 use Rattle.std.specs.Prelude.{◌==◌, ◌≢◌, ⊤, if◌then◌else◌, Option, Some, None}
 use Rattle.std.proofs.lemmas.Bool.{eqb-true}
 use Rattle.po_word.specs.declared.operator.Bin.TheVariants.{Add}
 use Rattle.po_word.specs.Words.{bin_value}
 use Rattle.po_term.specs.declared.term.Alias.{Alias}
 use Rattle.po_term.specs.declared.term.Alias.TheVariants.{Same, Apart, Maybe}
-use Rattle.po_term.specs.Tree.{Tree, Const, Leaf, Read, Unary, Binary}
+use Rattle.po_term.specs.Tree.{Tree, Const, Binary}
 use Rattle.po_term.specs.Terms.{Place, State, IsState, value}
-use Rattle.po_term.specs.Kinds.{words, Met, give}
+use Rattle.po_term.specs.Kinds.{words, give}
 use Rattle.po_term.specs.Worth.{HasWords}
 use Rattle.po_simplify.proofs.Worths.{value_fits}
 use Rattle.po_model.specs.Parts.{plainly}

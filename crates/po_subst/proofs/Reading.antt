@@ -1,6 +1,6 @@
 -- The list that two instructions come to makes nothing live.
-use Rattle.std.proofs.Common.{◌≡◌, ℕ, Bool, true, false, List, [], ◌∷◌, ◌++◌, refl, sym, ◌∙◌, ap, subst, arith, lit<}
-use Rattle.std.specs.Prelude.{◌==◌, not, ◌||◌, ◌&&◌, is_some, if◌then◌else◌, Option, Some, None, filter, ⊤}
+use Rattle.std.proofs.Common.{◌≡◌, ℕ, Bool, true, false, List, [], ◌∷◌, ◌++◌, refl, sym, ◌∙◌, ap, subst, arith}
+use Rattle.std.specs.Prelude.{not, ◌||◌, ◌&&◌, is_some, if◌then◌else◌, Option, Some, None, filter, ⊤}
 use Rattle.std.specs.List.{list_any}
 use Rattle.std.specs.Option.{option_or}
 use Rattle.std.proofs.lemmas.Bool.{false≢true, true≢false}
@@ -8,8 +8,8 @@ use Rattle.std.proofs.lemmas.List.Folds.{list_any-append}
 use Rattle.po_term.specs.declared.term.Reg.{Reg as Register}
 use Rattle.po_term.specs.declared.term.Reg.TheVariants.{Virt, Fp, Rv, Arg}
 use Rattle.po_term.specs.declared.term.Sym.{Sym}
-use Rattle.po_term.specs.Tree.{Tree, Const, Leaf, Read, Unary, Binary, EachLeaf}
-use Rattle.po_term.specs.Terms.{Place, InReg, AtSym, State, IsState}
+use Rattle.po_term.specs.Tree.{Const, Leaf, Read, Unary, Binary, EachLeaf}
+use Rattle.po_term.specs.Terms.{Place, InReg, AtSym}
 use Rattle.po_term.specs.Moves.{GoTo, IfCc, IfTwo, CallOf, Return, SetTo, CcTo, StoreTo, Ends}
 use Rattle.po_term.specs.Kinds.{words}
 use Rattle.po_term.specs.Simplified.{reg_eq}
@@ -18,7 +18,6 @@ use Rattle.po_model.specs.declared.var.Var.{Var}
 use Rattle.po_model.specs.declared.var.Var.TheVariants.{Reg, Cc}
 use Rattle.po_model.specs.Parts.{plainly, right_at, cc_of}
 use Rattle.po_model.specs.Effect.{Word, after}
-use Rattle.po_model.specs.Keeps.{live_at}
 use Rattle.po_model.specs.LiveAfter.{is_reg, is_cc as is_cc_var, term_reads, move_reads, move_sets, reads, sets}
 use Rattle.po_model.specs.Joined.{is_set, is_cc, is_store, is_control, is_away, is_idle, is_wanted, is_kept, in_order, assembled, forward_moves, joined}
 use Rattle.po_subst.specs.Found.{Step}
@@ -27,10 +26,10 @@ use Rattle.po_subst.specs.KeepsEffect.{OfList, lives, live_before}
 use Rattle.po_subst.proofs.Agreeing.{one_register}
 use Rattle.po_subst.proofs.InOrder.{listing_moving}
 use Rattle.po_subst.proofs.Lookups.{right_append, cc_append}
-use Rattle.po_subst.proofs.Alike.{Where, where_at, or_false, Two, Alike, like_some, two_some, none_of}
-use Rattle.po_subst.proofs.Joint.{simplified, wanted, Joining, joined_where, none_filter, right_wanted_at, cc_wanted_of, right_kept_at, cc_kept_of, idle_right}
+use Rattle.po_subst.proofs.Alike.{where_at, or_false, Alike, like_some, two_some, none_of}
+use Rattle.po_subst.proofs.Joint.{simplified, wanted, Joining, joined_where, right_wanted_at, cc_wanted_of, right_kept_at, cc_kept_of, idle_right}
 use Rattle.po_subst.proofs.Keeping.{zeros, zeros_fit, like_first, like_second}
-use Rattle.po_subst.proofs.Carried.{Carries, EachCarries, simplified_carries, forwarded_carries, carries_append, carries_filter}
+use Rattle.po_subst.proofs.Carried.{Carries, EachCarries, simplified_carries, forwarded_carries, carries_filter}
 
 -- one or the other is true
 pub by_either : {G : Type 0} (x y : Bool) → (x || y) ≡ true → (x ≡ true → G) → (y ≡ true → G) → G

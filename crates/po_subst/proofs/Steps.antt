@@ -1,5 +1,5 @@
 -- One more transfer of B that is read after A.
-use Rattle.std.proofs.Common.{◌≡◌, ℕ, Bool, true, false, List, [], ◌∷◌, ◌++◌, refl, sym, ◌∙◌, ap, append_assoc, append-nil}
+use Rattle.std.proofs.Common.{◌≡◌, ℕ, Bool, true, false, List, [], ◌∷◌, ◌++◌, refl, sym, ◌∙◌, ap, append_assoc}
 use Rattle.std.specs.Prelude.{if◌then◌else◌, Option, Some, None, filter}
 use Rattle.std.specs.Option.{option_map}
 use Rattle.po_term.specs.declared.term.Reg.{Reg as Register}

@@ -1,9 +1,8 @@
 -- No transfer sets a symbol.
 use Rattle.std.proofs.Common.{◌≡◌, ℕ, List, [], ◌∷◌, refl}
-use Rattle.std.specs.Prelude.{Option, Some, None}
+use Rattle.std.specs.Prelude.{None}
 use Rattle.po_term.specs.declared.term.Reg.{Reg as Register}
 use Rattle.po_term.specs.declared.term.Sym.{Sym}
-use Rattle.po_term.specs.Tree.{Tree}
 use Rattle.po_term.specs.Terms.{Place, AtSym}
 use Rattle.po_term.specs.Moves.{Move, SetTo, CcTo, StoreTo, Ends}
 use Rattle.po_model.specs.Parts.{plainly, right_at}

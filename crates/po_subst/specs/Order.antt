@@ -1,5 +1,5 @@
 -- Transfers by their kind.
-use Rattle.std.specs.Prelude.{ℕ, Bool, not, List, ◌++◌, filter}
+use Rattle.std.specs.Prelude.{Bool, not, List, ◌++◌, filter}
 use Rattle.po_term.specs.declared.term.Reg.{Reg as Register}
 use Rattle.po_term.specs.Moves.{moves_of}
 use Rattle.po_model.specs.Parts.{plainly}

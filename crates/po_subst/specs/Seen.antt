@@ -2,8 +2,6 @@
 use Rattle.std.specs.Prelude.{ℕ, Option}
 use Rattle.std.specs.Option.{option_map}
 use Rattle.std.proofs.Common.{Bor}
-use Rattle.po_term.specs.declared.term.Reg.{Reg}
-use Rattle.po_term.specs.declared.term.Sym.{Sym}
 use Rattle.po_term.specs.declared.term.Term.{Term}
 use Rattle.po_term.specs.Tree.{Tree}
 use Rattle.po_term.specs.Terms.{Place, tree_of}

@@ -1,5 +1,5 @@
 use Rattle.std.proofs.Common.{◌≡◌, ◌++◌, List, ◌∷◌, length, ap, sym, ◌∙◌, arith, subst, rules}
-use Rattle.std.specs.Vec.Iter.{into_iter_items, into_iter_len}
+use Rattle.std.specs.Vec.Iter.{into_iter_items}
 use Rattle.po_term.specs.declared.transfer.Transfer.{Transfer}
 use Rattle.po_term.specs.Moves.{move_of, moves_of, instr_of}
 use Rattle.po_model.specs.LiveSet.{is_live}
