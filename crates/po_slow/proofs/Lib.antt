@@ -1,3 +1,6 @@
 pub mod Sound
 pub mod Passes
+pub mod Onto
+pub mod PairWith
 pub mod RunsRead
+pub mod RunsReplace

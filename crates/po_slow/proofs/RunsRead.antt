@@ -306,7 +306,7 @@ module _ (x : PlainInstr) (h : IsInstr x) (L : Vars) (s t : State) (a : Agree (B
   read : SameWhere s t a.memory a.symbols (reads x)
   read v e = live_same v (inl e)
 
-  after_agree : (c : Control) → goes s (ending_of x) ≡ Some c → Agree (Passing c L) (after s x) (after t x)
+  pub after_agree : (c : Control) → goes s (ending_of x) ≡ Some c → Agree (Passing c L) (after s x) (after t x)
   after_agree c g = record {
     first = after_fits s a.first x h.0;
     second = after_fits t a.second x h.0;
