@@ -4,3 +4,4 @@ pub mod Onto
 pub mod PairWith
 pub mod RunsRead
 pub mod RunsReplace
+pub mod RunsWithin
