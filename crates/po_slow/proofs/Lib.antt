@@ -2,6 +2,8 @@ pub mod Sound
 pub mod Passes
 pub mod Onto
 pub mod PairWith
+pub mod Blockwise
 pub mod RunsRead
 pub mod RunsReplace
 pub mod RunsWithin
+pub mod RunsLeave
