@@ -7,3 +7,4 @@ pub mod RunsRead
 pub mod RunsReplace
 pub mod RunsWithin
 pub mod RunsLeave
+pub mod RunsBlocks
