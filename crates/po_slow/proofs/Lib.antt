@@ -8,3 +8,5 @@ pub mod RunsReplace
 pub mod RunsWithin
 pub mod RunsLeave
 pub mod RunsBlocks
+pub mod RunsStart
+pub mod RunsPasses
