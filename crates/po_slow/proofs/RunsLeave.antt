@@ -22,7 +22,7 @@ use Rattle.po_model.specs.Effect.{Control, Next, Jump, Called, Returned, Done, a
 use Rattle.po_model.specs.LiveAfter.{is_reg, is_cc, IsLive}
 use Rattle.po_model.specs.Run.{Write, Reply, IsReply, Call, Before, Behind, Run, written, replied, if_there, stands_before, answered, leave, LiveWhere}
 use Rattle.po_slow.proofs.Blockwise.{label_of, same_length}
-use Rattle.po_slow.proofs.RunsRead.{Vars, Passing, Agree, agree_less, reg_swap}
+use Rattle.po_slow.proofs.RunsRead.{Variables, Passing, Agree, agree_less, reg_swap}
 use Rattle.po_slow.proofs.RunsReplace.{doing, one_ending, doing_next, alone}
 use Rattle.po_slow.proofs.RunsWithin.{OutOf}
 
@@ -134,7 +134,7 @@ neither_is q e = go (reg_eq Rv q) (reg_swap Rv q ∙ e)
     go false i = refl
 
 -- what isn't rv or cc agreed before the reply, and these are the same after it
-replied_agree : (r : Reply) (f : Sym) (ws : List ℕ) (L : Vars) (s t : State) → IsReply r → Agree (Passing (Called f ws) L) s t → Agree L (replied r s) (replied r t)
+replied_agree : (r : Reply) (f : Sym) (ws : List ℕ) (L : Variables) (s t : State) → IsReply r → Agree (Passing (Called f ws) L) s t → Agree L (replied r s) (replied r t)
 replied_agree r f ws L s t h a = record {
   first = replied_fits r s h a.first;
   second = replied_fits r t h a.second;

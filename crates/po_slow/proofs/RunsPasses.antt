@@ -19,7 +19,7 @@ use Rattle.po_slow.proofs.RunsRead.{Alike, alike_self}
 use Rattle.po_slow.proofs.RunsReplace.{AreFormed, Replaces, doing}
 use Rattle.po_slow.proofs.RunsWithin.{OutOf, Within, within_start, within_taken, within_dropped, within_gone, within_one}
 use Rattle.po_slow.proofs.RunsLeave.{Together, BothStand}
-use Rattle.po_slow.proofs.RunsBlocks.{LivesIn, RunsAs, runs_join, both_less, blocks_stand}
+use Rattle.po_slow.proofs.RunsBlocks.{LivesIn, RunsAs, each_block, runs_join, both_less, blocks_stand}
 use Rattle.po_slow.proofs.RunsStart.{starts_together}
 
 -- The blocks of a code in form
@@ -31,16 +31,6 @@ are_formed (x ∷ xs) h = (All-head WellFormed x xs h, are_formed xs (All-tail W
 all_formed : (xs : List PlainInstr) → AreFormed xs → All WellFormed xs
 all_formed [] h = All-nil WellFormed
 all_formed (x ∷ xs) h = All-cons WellFormed x xs h.0 (all_formed xs h.1)
-
-formed_at : (code : List PlainBlock) (b : ℕ) → All (λ b. All WellFormed b.instrs) code → AreFormed (instrs_at code b)
-formed_at [] b h = tt
-formed_at (x ∷ xs) zero h = are_formed x.instrs (All-head (λ (b : PlainBlock). All WellFormed b.instrs) x xs h)
-formed_at (x ∷ xs) (suc b) h = formed_at xs b (All-tail (λ (b : PlainBlock). All WellFormed b.instrs) x xs h)
-
-ends_at : (code : List PlainBlock) (b : ℕ) → IsCode code → EndsLast (instrs_at code b)
-ends_at [] b h = tt
-ends_at (x ∷ xs) zero h = All-head (λ (b : PlainBlock). EndsLast b.instrs) x xs h
-ends_at (x ∷ xs) (suc b) h = ends_at xs b (All-tail (λ (b : PlainBlock). EndsLast b.instrs) x xs h)
 
 -- a fact of each block of two codes, and of blocks that aren't there
 at_all : (P : ℕ → List PlainInstr → List PlainInstr → Type 0) (xs ys : List PlainBlock) → length ys ≡ length xs → ((b : ℕ) → P b [] []) → ((b : ℕ) → b < length xs → P b (instrs_at xs b) (instrs_at ys b)) → (b : ℕ) → P b (instrs_at xs b) (instrs_at ys b)
@@ -54,6 +44,12 @@ at_all P (x ∷ xs) (y ∷ ys) e n h (suc b) = at_all (λ c. P (suc c)) xs ys (o
 
 module _ (m : Machine) (allowed : IsMachine m) (Shrinks : List PlainBlock → List PlainBlock → Type 0) (Flows : List PlainBlock → Told → ℕ → List PlainInstr → List Ahead → Type 0)
     (shrinking : Laws m IsFormedCode Shrinks Flows) (lives : (code next : List PlainBlock) → Shrinks code next → LivesIn next code) where
+  formed_at : (code : List PlainBlock) → IsFormedCode code → (b : ℕ) → AreFormed (instrs_at code b)
+  formed_at code before b = are_formed (instrs_at code b) (each_block (λ xs. All WellFormed xs) (All-nil WellFormed) code b before.formed)
+
+  ends_at : (code : List PlainBlock) → IsFormedCode code → (b : ℕ) → EndsLast (instrs_at code b)
+  ends_at code before b = each_block EndsLast tt code b before.ends_last
+
   abbrev Holds : List PlainBlock → Told → ℕ → List PlainInstr → List Ahead → Type 0
   Holds code live b done rest = Within code b done rest × Flows code live b done rest
 
@@ -74,7 +70,7 @@ module _ (m : Machine) (allowed : IsMachine m) (Shrinks : List PlainBlock → Li
       let same = at_all (λ b xs ys. Replaces (OutOf code b) xs ys) code next long (λ b s fits. alike_self (OutOf code b) (doing [] s) fits) (λ b l. (at b l).2) in (
         record {
           lives = smaller;
-          runs = λ n x y t. both_less next code smaller (run code n x) (run next n y) (blocks_stand code next labels (λ b. formed_at code b before.formed) (λ b. ends_at code b before.ends_last) same n x y t);
+          runs = λ n x y t. both_less next code smaller (run code n x) (run next n y) (blocks_stand code next labels (formed_at code before) (ends_at code before) same n x y t);
         },
         record {
           ends_last = all_blocks EndsLast next (λ b l. (at b (omega (arith, l, long))).1);
@@ -85,7 +81,7 @@ module _ (m : Machine) (allowed : IsMachine m) (Shrinks : List PlainBlock → Li
   runs_laws : Laws m IsFormedCode RunsAs Holds
   runs_laws = record {
     joins = runs_join;
-    start = λ code live before tells b l. (within_start code live tells b (formed_at code b before.formed) (ends_at code b before.ends_last), shrinking.start code live before tells b l);
+    start = λ code live before tells b l. (within_start code live tells b (formed_at code before b) (ends_at code before b), shrinking.start code live before tells b l);
     dropped = λ code live before tells b done x xs h dead. (within_dropped code b done x xs h.0 dead, shrinking.dropped code live before tells b done x xs h.1 dead);
     taken = λ code live before tells b done x xs h. (within_taken code b done x xs h.0, shrinking.taken code live before tells b done x xs h.1);
     gone = λ code live before tells b d done x xs h e. (within_gone m code b d done x xs h.0 e, shrinking.gone code live before tells b d done x xs h.1 e);

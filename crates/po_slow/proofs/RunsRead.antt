@@ -30,18 +30,18 @@ use Rattle.po_subst.proofs.Joint.{single_of, words_of}
 use Rattle.po_subst.proofs.Reading.{left_true, right_true}
 
 -- a set of variables
-abbrev pub Vars : Type 1
-Vars = Var → Type 0
+abbrev pub Variables : Type 1
+Variables = Var → Type 0
 
 -- of these variables, those that stay as they are where control goes so: a call's reply sets rv and empties cc
-abbrev pub Passing : Control → Vars → Vars
+abbrev pub Passing : Control → Variables → Variables
 Passing Next L = L
 Passing (Jump l) L = L
 Passing (Called f ws) L = λ v. ((is_reg Rv v || is_cc v) ≡ false) × L v
 Passing (Returned w) L = L
 
 -- two states of words that agree on memory, on symbols, and on each of these variables
-pub record Agree (L : Vars) (s t : State) : Type 0 where
+pub record Agree (L : Variables) (s t : State) : Type 0 where
   pub first : IsState s
   pub second : IsState t
   pub memory : (a : ℕ) → s.memory a ≡ t.memory a
@@ -50,14 +50,14 @@ pub record Agree (L : Vars) (s t : State) : Type 0 where
   pub compared : L Cc → s.cc ≡ t.cc
 
 -- both without effect, or with the same control, and states that agree on what of these variables stays
-abbrev pub Alike : Vars → Option Done → Option Done → Type 0
+abbrev pub Alike : Variables → Option Done → Option Done → Type 0
 Alike L None None = ⊤
 Alike L (Some d) (Some e) = (d.to ≡ e.to) × Agree (Passing d.to L) d.state e.state
 Alike L None (Some e) = ⊥
 Alike L (Some d) None = ⊥
 
 -- what an instruction reads, and what of these variables it doesn't set
-abbrev pub BeforeOne : PlainInstr → Vars → Vars
+abbrev pub BeforeOne : PlainInstr → Variables → Variables
 BeforeOne x L v = (reads x v ≡ true) ⊎ ((sets x v ≡ false) × L v)
 
 -- an instruction whose transfers have words, with at most one of each kind but sets
@@ -69,7 +69,7 @@ instr_formed x h = (words_of x h.each, single_of x h.pairs)
 
 -- Agreement
 
-pub agree_less : (L M : Vars) (s t : State) → ((v : Var) → M v → L v) → Agree L s t → Agree M s t
+pub agree_less : (L M : Variables) (s t : State) → ((v : Var) → M v → L v) → Agree L s t → Agree M s t
 agree_less L M s t h a = record {
   first = a.first;
   second = a.second;
@@ -79,10 +79,10 @@ agree_less L M s t h a = record {
   compared = λ m. a.compared (h Cc m);
 }
 
-pub agree_self : (L : Vars) (s : State) → IsState s → Agree L s s
+pub agree_self : (L : Variables) (s : State) → IsState s → Agree L s s
 agree_self L s fits = record { first = fits; second = fits; memory = λ a. refl; symbols = λ y. refl; registers = λ r l. refl; compared = λ l. refl }
 
-pub agree_joins : (L : Vars) (r s t : State) → Agree L r s → Agree L s t → Agree L r t
+pub agree_joins : (L : Variables) (r s t : State) → Agree L r s → Agree L s t → Agree L r t
 agree_joins L r s t a b = record {
   first = a.first;
   second = b.second;
@@ -92,26 +92,26 @@ agree_joins L r s t a b = record {
   compared = λ l. a.compared l ∙ b.compared l;
 }
 
-pub passing_less : (c : Control) (L M : Vars) → ((v : Var) → M v → L v) → (v : Var) → Passing c M v → Passing c L v
+pub passing_less : (c : Control) (L M : Variables) → ((v : Var) → M v → L v) → (v : Var) → Passing c M v → Passing c L v
 passing_less Next L M h v p = h v p
 passing_less (Jump l) L M h v p = h v p
 passing_less (Called f ws) L M h v p = (p.0, h v p.1)
 passing_less (Returned w) L M h v p = h v p
 
 -- what stays is one of them
-pub passing_in : (c : Control) (L : Vars) (v : Var) → Passing c L v → L v
+pub passing_in : (c : Control) (L : Variables) (v : Var) → Passing c L v → L v
 passing_in Next L v p = p
 passing_in (Jump l) L v p = p
 passing_in (Called f ws) L v p = p.1
 passing_in (Returned w) L v p = p
 
-pub alike_less : (L M : Vars) → ((v : Var) → M v → L v) → (o p : Option Done) → Alike L o p → Alike M o p
+pub alike_less : (L M : Variables) → ((v : Var) → M v → L v) → (o p : Option Done) → Alike L o p → Alike M o p
 alike_less L M h None None a = tt
 alike_less L M h (Some d) (Some e) a = (a.0, agree_less (Passing d.to L) (Passing d.to M) d.state e.state (passing_less d.to L M h) a.1)
 alike_less L M h None (Some e) a = absurd a
 alike_less L M h (Some d) None a = absurd a
 
-pub alike_joins : (L : Vars) (x y z : Option Done) → Alike L x y → Alike L y z → Alike L x z
+pub alike_joins : (L : Variables) (x y z : Option Done) → Alike L x y → Alike L y z → Alike L x z
 alike_joins L None None z h k = k
 alike_joins L (Some d) (Some e) (Some f) h k = (h.0 ∙ k.0, agree_joins (Passing d.to L) d.state e.state f.state h.1 (subst (λ (c : Control). Agree (Passing c L) e.state f.state) (sym h.0) k.1))
 alike_joins L (Some d) (Some e) None h k = absurd k
@@ -123,7 +123,7 @@ abbrev pub LeavesWords : Option Done → Type 0
 LeavesWords None = ⊤
 LeavesWords (Some d) = IsState d.state
 
-pub alike_self : (L : Vars) (o : Option Done) → LeavesWords o → Alike L o o
+pub alike_self : (L : Variables) (o : Option Done) → LeavesWords o → Alike L o o
 alike_self L None h = tt
 alike_self L (Some d) h = (refl, agree_self (Passing d.to L) d.state h)
 
@@ -166,7 +166,7 @@ module _ (s : State) (fits : IsState s) where
 
 -- two states that agree on memory and symbols
 module _ (s t : State) (memory : (a : ℕ) → s.memory a ≡ t.memory a) (symbols : (y : Sym) → s.place (AtSym y) ≡ t.place (AtSym y)) where
-  abbrev pub SameAt : Vars
+  abbrev pub SameAt : Variables
   SameAt (Reg r) = s.place (InReg r) ≡ t.place (InReg r)
   SameAt Cc = s.cc ≡ t.cc
 
@@ -254,11 +254,11 @@ ending_sets None v = false
 ending_sets (Some e) v = move_sets (Ends e) v
 
 -- what stays where control goes so isn't set by the end
-branch_passes : (b : Bool) (l : Label) (L : Vars) (v : Var) → Passing (branch b l) L v → L v
+branch_passes : (b : Bool) (l : Label) (L : Variables) (v : Var) → Passing (branch b l) L v → L v
 branch_passes true l L v p = p
 branch_passes false l L v p = p
 
-end_passes : (s : State) (e : Option (Ending ℕ Place Sym)) (c : Control) (L : Vars) (v : Var) → goes s e ≡ Some c → Passing c L v → ending_sets e v ≡ false
+end_passes : (s : State) (e : Option (Ending ℕ Place Sym)) (c : Control) (L : Variables) (v : Var) → goes s e ≡ Some c → Passing c L v → ending_sets e v ≡ false
 end_passes s None c L v g p = refl
 end_passes s (Some (GoTo l)) c L v g p = refl
 end_passes s (Some (IfCc r l)) c L v g p = refl
@@ -298,7 +298,7 @@ cc_unset (Ends x ∷ ms) h n e = neither (move_sets (Ends x) Cc) (sets ms Cc) e 
 
 -- An instruction reads only what is live before it
 
-module _ (x : PlainInstr) (h : IsInstr x) (L : Vars) (s t : State) (a : Agree (BeforeOne x L) s t) where
+module _ (x : PlainInstr) (h : IsInstr x) (L : Variables) (s t : State) (a : Agree (BeforeOne x L) s t) where
   live_same : (v : Var) → BeforeOne x L v → SameAt s t a.memory a.symbols v
   live_same (Reg r) l = a.registers r l
   live_same Cc l = a.compared l

@@ -12,14 +12,14 @@ use Rattle.po_model.specs.Parts.{ending_of as end_of}
 use Rattle.po_model.specs.Effect.{Control, Next, Jump, Called, Returned, Done, after, goes, effect}
 use Rattle.po_model.specs.Run.{then_on, and_on, in_turn}
 use Rattle.po_slow.proofs.Onto.{onto}
-use Rattle.po_slow.proofs.RunsRead.{Vars, Passing, Agree, Alike, BeforeOne, IsInstr, instr_formed, LeavesWords, after_fits, after_agree, effect_agree, effect_fits}
+use Rattle.po_slow.proofs.RunsRead.{Variables, Passing, Agree, Alike, BeforeOne, IsInstr, instr_formed, LeavesWords, after_fits, after_agree, effect_agree, effect_fits}
 
 -- what these instructions do, one after another
 abbrev pub doing : List PlainInstr → State → Option Done
 doing xs s = in_turn (map effect xs) s
 
 -- what is live before these instructions, by what is live behind them
-abbrev pub Back : List PlainInstr → Vars → Vars
+abbrev pub Back : List PlainInstr → Variables → Variables
 Back [] L = L
 Back (x ∷ xs) L = BeforeOne x (Back xs L)
 
@@ -33,7 +33,7 @@ AreCalm [] = ⊤
 AreCalm (x ∷ xs) = (ending_of x ≡ None) × AreCalm xs
 
 -- in each state of words they are alike behind
-abbrev pub Replaces : Vars → List PlainInstr → List PlainInstr → Type 0
+abbrev pub Replaces : Variables → List PlainInstr → List PlainInstr → Type 0
 Replaces L xs ys = (s : State) → IsState s → Alike L (doing xs s) (doing ys s)
 
 -- an instruction without a transfer of control
@@ -67,7 +67,7 @@ alone (Some d) = go d.to refl
     go (Called f ws) e = refl
     go (Returned w) e = refl
 
-pub doing_agree : (L : Vars) (xs : List PlainInstr) (s t : State) → AreFormed xs → EndsLast xs → Agree (Back xs L) s t → Alike L (doing xs s) (doing xs t)
+pub doing_agree : (L : Variables) (xs : List PlainInstr) (s t : State) → AreFormed xs → EndsLast xs → Agree (Back xs L) s t → Alike L (doing xs s) (doing xs t)
 doing_agree L [] s t f k a = (refl, a)
 doing_agree L (x ∷ []) s t f k a = rw (alone (effect x s), alone (effect x t)) (effect_agree x (instr_formed x f.0) L s t a)
 doing_agree L (x ∷ y ∷ ys) s t f k a =
@@ -98,7 +98,7 @@ GoesOnTo (r ∷ rs) None = ⊤
 GoesOnTo (r ∷ rs) (Some d) = d.to ≡ Next
 
 -- what is alike stays so with the rest of the block behind it
-pub behind : (L : Vars) (rest : List PlainInstr) → AreFormed rest → EndsLast rest → (o p : Option Done) → GoesOnTo rest o → Alike (Back rest L) o p → Alike L (and_on (in_turn (map effect rest)) o) (and_on (in_turn (map effect rest)) p)
+pub behind : (L : Variables) (rest : List PlainInstr) → AreFormed rest → EndsLast rest → (o p : Option Done) → GoesOnTo rest o → Alike (Back rest L) o p → Alike L (and_on (in_turn (map effect rest)) o) (and_on (in_turn (map effect rest)) p)
 behind L [] f k o p n a = rw (alone o, alone p) a
 behind L (r ∷ rs) f k None None n a = tt
 behind L (r ∷ rs) f k (Some d) (Some e) n a =
@@ -140,6 +140,6 @@ pub formed_onto : (ds xs : List PlainInstr) → AreFormed ds → AreFormed xs �
 formed_onto [] xs f g = g
 formed_onto (d ∷ ds) xs f g = formed_onto ds (d ∷ xs) f.1 (f.0, g)
 
-pub onto_replaces : (L : Vars) (ds xs ys : List PlainInstr) → AreFormed ds → AreCalm ds → Replaces L xs ys → Replaces L (onto ds xs) (onto ds ys)
+pub onto_replaces : (L : Variables) (ds xs ys : List PlainInstr) → AreFormed ds → AreCalm ds → Replaces L xs ys → Replaces L (onto ds xs) (onto ds ys)
 onto_replaces L [] xs ys f c h = h
 onto_replaces L (d ∷ ds) xs ys f c h = onto_replaces L ds (d ∷ xs) (d ∷ ys) f.1 c.1 (λ s fits. rw (doing_next d c.0 xs s, doing_next d c.0 ys s) (h (after s d) (after_fits s fits d (instr_formed d f.0).0)))

@@ -18,6 +18,7 @@ use Rattle.po_model.specs.UnitCodes.{written, ReadsBehind, IsStraight}
 use Rattle.po_subst.proofs.Agreeing.{reg_self}
 use Rattle.po_subst.proofs.Reading.{left_true, right_true}
 use Rattle.po_slow.proofs.RunsLeave.{Together}
+use Rattle.po_slow.proofs.RunsBlocks.{each_block}
 
 -- a list with one more in front
 contains_split : (v : ℕ) (ws : List ℕ) (k : ℕ) → Contains (v ∷ ws) k → (v ≡ k) ⊎ Contains ws k
@@ -42,18 +43,16 @@ written_sets (CcTo t u ∷ ms) k c = written_sets ms k c
 written_sets (StoreTo t u ∷ ms) k c = written_sets ms k c
 written_sets (Ends e ∷ ms) k c = right_true (move_sets (Ends e) (Reg (Virt k))) (sets ms (Reg (Virt k))) (written_sets ms k c)
 
-behind_at : (code : List PlainBlock) (b : ℕ) → All (λ b. ReadsBehind [] b.instrs) code → ReadsBehind [] (instrs_at code b)
-behind_at [] b h = tt
-behind_at (x ∷ xs) zero h = All-head (λ (b : PlainBlock). ReadsBehind [] b.instrs) x xs h
-behind_at (x ∷ xs) (suc b) h = behind_at xs b (All-tail (λ (b : PlainBlock). ReadsBehind [] b.instrs) x xs h)
-
 module _ (code : List PlainBlock) (straight : IsStraight code) (k : ℕ) where
+  behind_at : (b : ℕ) → ReadsBehind [] (instrs_at code b)
+  behind_at b = each_block (ReadsBehind []) tt code b straight.behind
+
   -- on a path from a place where k isn't set yet, a setter of k stands before each reader
   never_read : (path : List Point) (b : ℕ) (xs : List PlainInstr) (set : List ℕ) → ReadsBehind set xs → (Contains set k → ⊥) → ReadOn code (Reg (Virt k)) (record { block = b; rest = xs }) path → ⊥
   never_read [] b [] set r n h = false≢true h
   never_read [] b (x ∷ xs) set r n h = n (r.0 k h)
   never_read (q ∷ qs) b [] set r n h =
-      never_read qs q.block q.rest [] (subst (λ (ys : List PlainInstr). ReadsBehind [] ys) (sym h.1.1) (behind_at code q.block straight.behind)) (contains_none k) h.2
+      never_read qs q.block q.rest [] (subst (λ (ys : List PlainInstr). ReadsBehind [] ys) (sym h.1.1) (behind_at q.block)) (contains_none k) h.2
   never_read (q ∷ qs) b (x ∷ xs) set r n h = never_read qs q.block q.rest (set ++ written x) (subst (λ (ys : List PlainInstr). ReadsBehind (set ++ written x) ys) (sym h.1.1) r.1) (λ c. go (Contains-append_cases set (written x) k c)) h.2
     where
       go : Contains set k ⊎ Contains (written x) k → ⊥
@@ -62,7 +61,7 @@ module _ (code : List PlainBlock) (straight : IsStraight code) (k : ℕ) where
 
   virtual_dead : (b : ℕ) → LiveWhere code (Before b) (Reg (Virt k)) → ⊥
   virtual_dead b (inl e) = (cc)
-  virtual_dead b (inr r) = never_read r.0 b (instrs_at code b) [] (behind_at code b straight.behind) (contains_none k) r.1
+  virtual_dead b (inr r) = never_read r.0 b (instrs_at code b) [] (behind_at b) (contains_none k) r.1
 
 -- what is live there has its name in every unit
 live_fixed : (code : List PlainBlock) → IsStraight code → (b : ℕ) (r : Register) → LiveWhere code (Before b) (Reg r) → IsFixed r

@@ -27,8 +27,9 @@ use Rattle.po_subst.proofs.Reading.{left_true}
 use Rattle.po_slow.specs.KeepsEffect.{SameEnd, SameEffect, effect_of_both, then_effect, KeepsEffect}
 use Rattle.po_slow.proofs.Sound.{answer_keeps}
 use Rattle.po_slow.proofs.Onto.{onto}
+use Rattle.po_slow.proofs.Blockwise.{instrs_in, ahead_instrs}
 use Rattle.po_slow.proofs.PairWith.{pair_formed, pair_tells}
-use Rattle.po_slow.proofs.RunsRead.{Vars, Passing, Agree, Alike, LeavesWords, instr_formed, alike_joins, alike_self, passing_in, after_fits, effect_fits}
+use Rattle.po_slow.proofs.RunsRead.{Variables, Passing, Agree, Alike, LeavesWords, instr_formed, alike_joins, alike_self, passing_in, after_fits, effect_fits}
 use Rattle.po_slow.proofs.RunsReplace.{doing, Back, AreFormed, AreCalm, Replaces, one_ending, effect_next, doing_next, doing_fits, behind, goes_on_to, ends_rest, ends_split, ends_onto, formed_split, formed_onto, onto_replaces}
 
 -- A dead instruction
@@ -78,10 +79,10 @@ symbol_unset y (StoreTo t u ∷ ms) = symbol_unset y ms
 symbol_unset y (Ends e ∷ ms) = symbol_unset y ms
 
 -- what is live is told so
-abbrev pub IsToldBy : Vars → (Var → Bool) → Type 0
+abbrev pub IsToldBy : Variables → (Var → Bool) → Type 0
 IsToldBy L live = (v : Var) → L v → live v ≡ true
 
-dead_alike : (L : Vars) (live : Var → Bool) (x : PlainInstr) → IsToldBy L live → WellFormed x → is_dead live x ≡ true → (s : State) → IsState s → Alike L (effect x s) (effect [] s)
+dead_alike : (L : Variables) (live : Var → Bool) (x : PlainInstr) → IsToldBy L live → WellFormed x → is_dead live x ≡ true → (s : State) → IsState s → Alike L (effect x s) (effect [] s)
 dead_alike L live x told f h s fits =
     rw (effect_next x (dead_ending live x h) s)
     (refl, record {
@@ -105,7 +106,7 @@ both_matter false false false h = refl
 register_matters : (d : PlainInstr) (x : Ahead) (r : Register) → x.live (Reg r) ≡ true → matters (is_live_after (pair_with d x)) d x.instr (InReg r) ≡ true
 register_matters d x r l = both_matter (is_live_after (pair_with d x) r) (is_set_in d r) (is_set_in x.instr r) (λ e. sym ((pair_tells d x).regs r e) ∙ l)
 
-end_alike : (L : Vars) (d : PlainInstr) (x : Ahead) → IsToldBy L x.live → (e f : Done) → IsState e.state → IsState f.state → SameEnd (pair_with d x) e f → Agree (Passing e.to L) e.state f.state
+end_alike : (L : Variables) (d : PlainInstr) (x : Ahead) → IsToldBy L x.live → (e f : Done) → IsState e.state → IsState f.state → SameEnd (pair_with d x) e f → Agree (Passing e.to L) e.state f.state
 end_alike L d x told e f g h same = record {
   first = g;
   second = h;
@@ -115,7 +116,7 @@ end_alike L d x told e f g h same = record {
   compared = λ p. same.compared (left_true (x.live Cc) (not (is_some (cc_of d)) && not (is_some (cc_of x.instr))) (told Cc (passing_in e.to L Cc p)));
 }
 
-pair_alike : (L : Vars) (d : PlainInstr) (x : Ahead) → IsToldBy L x.live → (o p : Option Done) → LeavesWords o → LeavesWords p → SameEffect (pair_with d x) o p → Alike L o p
+pair_alike : (L : Variables) (d : PlainInstr) (x : Ahead) → IsToldBy L x.live → (o p : Option Done) → LeavesWords o → LeavesWords p → SameEffect (pair_with d x) o p → Alike L o p
 pair_alike L d x told None None g h same = tt
 pair_alike L d x told (Some e) (Some f) g h same = (same.control, end_alike L d x told e f g h same)
 pair_alike L d x told None (Some f) g h same = absurd same
@@ -126,7 +127,7 @@ both_next : (d x : PlainInstr) → ending_of d ≡ None → (s : State) → effe
 both_next d x n s = ap (λ o. then_effect x o) (effect_next d n s)
 
 -- one list that does what the pair does, with the rest of the block behind it
-pair_replaces : (L : Vars) (d : PlainInstr) (x : Ahead) (j : PlainInstr) (rest : List PlainInstr)
+pair_replaces : (L : Variables) (d : PlainInstr) (x : Ahead) (j : PlainInstr) (rest : List PlainInstr)
     → WellFormed d → WellFormed x.instr → ((s : State) → IsState s → LeavesWords (effect j s)) → AreFormed rest
     → ending_of d ≡ None → EndsLast (x.instr ∷ rest) → IsToldBy (Back rest L) x.live
     → ((s : State) → IsState s → SameEffect (pair_with d x) (effect_of_both d x.instr s) (effect j s))
@@ -141,7 +142,7 @@ pair_replaces L d x j rest f g leaves h n k told same s fits =
 -- Where the scan of a block stands
 
 -- what is live behind a block
-abbrev pub OutOf : List PlainBlock → ℕ → Vars
+abbrev pub OutOf : List PlainBlock → ℕ → Variables
 OutOf code b v = IsLive code v (record { block = b; rest = [] })
 
 -- what is live before instructions at the end of a block, by what is live behind it
@@ -154,24 +155,17 @@ back_live code b (x ∷ xs) v (inr p) = further p.0 (back_live code b xs v p.1)
     further n (inl e) = inl e
     further n (inr r) = inr (record { block = b; rest = xs } ∷ r.0, (n, (refl, refl), r.1))
 
-abbrev pub instrs : List Ahead → List PlainInstr
-instrs xs = map (λ x. x.instr) xs
-
 -- with each of these instructions stands what is live after it
 abbrev pub AreTold : List PlainBlock → ℕ → List Ahead → Type 0
 AreTold code b [] = ⊤
-AreTold code b (x ∷ xs) = IsToldBy (Back (instrs xs) (OutOf code b)) x.live × AreTold code b xs
+AreTold code b (x ∷ xs) = IsToldBy (Back (instrs_in xs) (OutOf code b)) x.live × AreTold code b xs
 
 -- what is done of the block b and what is to come is in form, tells what is live, and does what the block did
 pub record Within (code : List PlainBlock) (b : ℕ) (done : List PlainInstr) (rest : List Ahead) : Type 0 where
-  pub formed : AreFormed (onto done (instrs rest))
-  pub ends : EndsLast (onto done (instrs rest))
+  pub formed : AreFormed (onto done (instrs_in rest))
+  pub ends : EndsLast (onto done (instrs_in rest))
   pub told : AreTold code b rest
-  pub same : Replaces (OutOf code b) (instrs_at code b) (onto done (instrs rest))
-
-pub instrs_of_ahead : (live : ℕ → Var → Bool) (i : ℕ) (xs : List PlainInstr) → instrs (instrs_ahead live i xs) ≡ xs
-instrs_of_ahead live i [] = refl
-instrs_of_ahead live i (x ∷ xs) = ap (λ ys. x ∷ ys) (instrs_of_ahead live (suc i) xs)
+  pub same : Replaces (OutOf code b) (instrs_at code b) (onto done (instrs_in rest))
 
 dropped_more : (i : ℕ) (all : List PlainInstr) (x : PlainInstr) (xs : List PlainInstr) → x ∷ xs ≡ drop i all → (i < length all) × (xs ≡ drop (suc i) all)
 dropped_more zero [] x xs e = absurd (cc)
@@ -183,12 +177,12 @@ start_told : (code : List PlainBlock) (live : ℕ → ℕ → Var → Bool) → 
 start_told code live tells b i [] e = tt
 start_told code live tells b i (x ∷ xs) e =
     let more = dropped_more i (instrs_at code b) x xs e in
-    (λ v h. (tells b i v more.0).1 (subst (λ (ys : List PlainInstr). IsLive code v (record { block = b; rest = ys })) more.1 (back_live code b xs v (subst (λ (ys : List PlainInstr). Back ys (OutOf code b) v) (instrs_of_ahead (live b) (suc i) xs) h))),
+    (λ v h. (tells b i v more.0).1 (subst (λ (ys : List PlainInstr). IsLive code v (record { block = b; rest = ys })) more.1 (back_live code b xs v (subst (λ (ys : List PlainInstr). Back ys (OutOf code b) v) (ahead_instrs (live b) (suc i) xs) h))),
     start_told code live tells b (suc i) xs more.1)
 
 pub within_start : (code : List PlainBlock) (live : ℕ → ℕ → Var → Bool) → Tells code live → (b : ℕ) → AreFormed (instrs_at code b) → EndsLast (instrs_at code b) → Within code b [] (instrs_ahead (live b) 0 (instrs_at code b))
 within_start code live tells b f k =
-    let same = sym (instrs_of_ahead (live b) 0 (instrs_at code b)) in
+    let same = sym (ahead_instrs (live b) 0 (instrs_at code b)) in
     record {
       formed = subst (λ (ys : List PlainInstr). AreFormed ys) same f;
       ends = subst (λ (ys : List PlainInstr). EndsLast ys) same k;
@@ -206,7 +200,7 @@ within_taken code b done x xs w = record { formed = w.formed; ends = w.ends; tol
 
 pub within_dropped : (code : List PlainBlock) (b : ℕ) (done : List PlainInstr) (x : Ahead) (xs : List Ahead) → Within code b done (x ∷ xs) → is_dead x.live x.instr ≡ true → Within code b done xs
 within_dropped code b done x xs w h =
-    let rest = instrs xs in
+    let rest = instrs_in xs in
     let f = formed_split done (x.instr ∷ rest) w.formed in
     let k = ends_split done x.instr rest w.ends in
     let l = ends_rest x.instr rest k.1 in
@@ -228,7 +222,7 @@ still_ends x y (z ∷ zs) h k = (one_ending y ∙ none (end_of y) (h (ap is_some
 
 module _ (m : Machine) (code : List PlainBlock) (b : ℕ) (d : PlainInstr) (done : List PlainInstr) (x : Ahead) (xs : List Ahead) (w : Within code b (d ∷ done) (x ∷ xs)) where
   abbrev rest : List PlainInstr
-  rest = instrs xs
+  rest = instrs_in xs
 
   forms : AreFormed done × AreFormed (d ∷ x.instr ∷ rest)
   forms = formed_split done (d ∷ x.instr ∷ rest) w.formed
