@@ -1,2 +1,4 @@
 pub mod Sound
 pub mod Passes
+pub mod Onto
+pub mod Named

@@ -1,12 +1,10 @@
 -- How a fact of all passes over a code is shown: by the steps of a scan within a block.
-use Rattle.std.proofs.Common.{◌≡◌, ℕ, zero, suc, ◌<◌, Bool, true, false, List, [], ◌∷◌, ◌++◌, length, reverse, map, refl, sym, ◌∙◌, ap, subst, arith}
-use Rattle.std.specs.Prelude.{if◌then◌else◌, Option, Some, None}
+use Rattle.std.proofs.Common.{◌≡◌, ℕ, ◌<◌, Bool, true, List, [], ◌∷◌, length, reverse, map}
 use Rattle.po_model.specs.declared.machine.Machine.{Machine}
 use Rattle.po_model.specs.declared.var.Var.{Var}
 use Rattle.po_model.specs.Blocks.{PlainInstr, PlainBlock, instrs_at}
-use Rattle.po_model.specs.Pairs.{PlainPair}
-use Rattle.po_model.specs.Combined.{Kept, Gone, AsOne, combination}
-use Rattle.po_model.specs.Scanned.{Answer, Ahead, Stand, BlockAhead, InBlock, Scan, Within, Finished, ScanStep, Tried, Ended, is_dead, onward, pair_with, ready, settled, instrs_ahead, blocks_ahead, enter, Tells, IsPassStart, passed_with, AfterPass, AfterBlock, pair_ready, after_try, AfterEnd, Goes, IsSlowed}
+use Rattle.po_model.specs.Combined.{Gone, AsOne, combination}
+use Rattle.po_model.specs.Scanned.{Ahead, is_dead, pair_with, instrs_ahead, Tells}
 
 abbrev pub Told : Type 0
 Told = ℕ → ℕ → Var → Bool
