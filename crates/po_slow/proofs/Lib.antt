@@ -2,3 +2,4 @@ pub mod Sound
 pub mod Passes
 pub mod Onto
 pub mod Named
+pub mod PairWith
