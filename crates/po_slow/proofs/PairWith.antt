@@ -23,7 +23,7 @@ use Rattle.po_model.specs.Pairs.{PlainPair, is_live_after, is_set_in, WellFormed
 use Rattle.po_model.specs.Scanned.{Ahead, put_live, pair_with}
 use Rattle.po_subst.proofs.Agreeing.{one_register, reg_self}
 use Rattle.po_subst.proofs.Alike.{or_false}
-use Rattle.po_subst.proofs.Reading.{left_true, right_true, reg_swap}
+use Rattle.po_subst.proofs.Reading.{left_true, right_true}
 use Rattle.po_slow.specs.KeepsEffect.{IsLiveAfter}
 
 nat_key : (m n : ℕ) → is_eq (nat_cmp m n) ≡ (m == n)
