@@ -3,3 +3,5 @@ pub mod Passes
 pub mod Onto
 pub mod Named
 pub mod PairWith
+pub mod Blockwise
+pub mod Forms
