@@ -5,3 +5,5 @@ pub mod Named
 pub mod PairWith
 pub mod Blockwise
 pub mod Forms
+pub mod Distinct
+pub mod Virtuals
