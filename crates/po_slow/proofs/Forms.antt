@@ -133,35 +133,35 @@ named_blocks labels syms (x ∷ xs) (y ∷ ys) e f h =
     (record { label = subst (λ (l : _). NamedLabel labels l) (sym first) here.label; instrs = f zero (omega arith) here.instrs })
     (named_blocks labels syms xs ys rest (λ b lt. f (suc b) (omega arith)) (All-tail (IsNamedBlock labels syms) y ys h))
 
+abbrev pub StaysAt : List PlainBlock → Told → ℕ → List PlainInstr → List Ahead → Type 0
+StaysAt code live b done rest = Stays code b (whole done rest)
+
+pub stays_at_start : (code : List PlainBlock) (live : Told) → IsFormedCode code → (b : ℕ) → b < length code → StaysAt code live b [] (instrs_ahead (live b) 0 (instrs_at code b))
+stays_at_start code live before b lt = subst (λ (xs : List PlainInstr). Stays code b xs) (sym (ahead_instrs (live b) 0 (instrs_at code b))) (record {
+  ends = block_at EndsLast code b lt before.ends_last;
+  formed = block_at (λ xs. All WellFormed xs) code b lt before.formed;
+  fewer = omega arith;
+  named = λ labels syms n. n;
+})
+
+pub kept_form : (code next : List PlainBlock) → map label_of next ≡ map label_of code → ((b : ℕ) → b < length code → Stays code b (onto (reverse (instrs_at next b)) [])) → Formed code next × IsFormedCode next
+kept_form code next e h =
+    let long = same_length next code e in (
+      record {
+        labels = e;
+        fewer = flat_fewer next code long (λ b lt. (at b lt).fewer);
+        named = λ labels syms n. named_blocks labels syms next code e (λ b lt. (at b lt).named labels syms) n;
+      },
+      record {
+        ends_last = all_blocks EndsLast next (λ b lt. (at b (omega (arith, lt, long))).ends);
+        formed = all_blocks (λ xs. All WellFormed xs) next (λ b lt. (at b (omega (arith, lt, long))).formed);
+      },
+    )
+  where
+    at : (b : ℕ) → b < length code → Stays code b (instrs_at next b)
+    at b lt = subst (λ (xs : List PlainInstr). Stays code b xs) (onto_reverse (instrs_at next b)) (h b lt)
+
 module _ (m : Machine) (allowed : IsMachine m) where
-  abbrev pub StaysAt : List PlainBlock → Told → ℕ → List PlainInstr → List Ahead → Type 0
-  StaysAt code live b done rest = Stays code b (whole done rest)
-
-  pub stays_at_start : (code : List PlainBlock) (live : Told) → IsFormedCode code → (b : ℕ) → b < length code → StaysAt code live b [] (instrs_ahead (live b) 0 (instrs_at code b))
-  stays_at_start code live before b lt = subst (λ (xs : List PlainInstr). Stays code b xs) (sym (ahead_instrs (live b) 0 (instrs_at code b))) (record {
-    ends = block_at EndsLast code b lt before.ends_last;
-    formed = block_at (λ xs. All WellFormed xs) code b lt before.formed;
-    fewer = omega arith;
-    named = λ labels syms n. n;
-  })
-
-  pub kept_form : (code next : List PlainBlock) → map label_of next ≡ map label_of code → ((b : ℕ) → b < length code → Stays code b (onto (reverse (instrs_at next b)) [])) → Formed code next × IsFormedCode next
-  kept_form code next e h =
-      let long = same_length next code e in (
-        record {
-          labels = e;
-          fewer = flat_fewer next code long (λ b lt. (at b lt).fewer);
-          named = λ labels syms n. named_blocks labels syms next code e (λ b lt. (at b lt).named labels syms) n;
-        },
-        record {
-          ends_last = all_blocks EndsLast next (λ b lt. (at b (omega (arith, lt, long))).ends);
-          formed = all_blocks (λ xs. All WellFormed xs) next (λ b lt. (at b (omega (arith, lt, long))).formed);
-        },
-      )
-    where
-      at : (b : ℕ) → b < length code → Stays code b (instrs_at next b)
-      at b lt = subst (λ (xs : List PlainInstr). Stays code b xs) (onto_reverse (instrs_at next b)) (h b lt)
-
   pub form_laws : Laws m IsFormedCode Formed StaysAt
   form_laws = record {
     joins = λ a b c f g. record {

@@ -7,3 +7,4 @@ pub mod Blockwise
 pub mod Forms
 pub mod Distinct
 pub mod Virtuals
+pub mod Straight

@@ -19,7 +19,7 @@ use Rattle.po_model.specs.declared.var.Var.{Var}
 use Rattle.po_model.specs.declared.var.Var.TheVariants.{Reg}
 use Rattle.po_model.specs.Blocks.{PlainInstr}
 use Rattle.po_model.specs.Parts.{plainly, right_at}
-use Rattle.po_model.specs.Pairs.{is_set_in, WellFormedPair}
+use Rattle.po_model.specs.Pairs.{is_live_after, is_set_in, WellFormedPair}
 use Rattle.po_model.specs.Scanned.{Ahead, put_live, pair_with}
 use Rattle.po_subst.proofs.Agreeing.{one_register, reg_self}
 use Rattle.po_subst.proofs.Reading.{left_true, right_true}
@@ -142,3 +142,14 @@ pair_tells d x = record {
     both true false false e = refl
     both false true l e = refl
     both false false l e = absurd (false≢true e)
+
+-- what the pair names as live, one of the two sets
+pub pair_names : (d : PlainInstr) (x : Ahead) (r : Register) → is_live_after (pair_with d x) r ≡ true → (is_set_in d r || is_set_in x.instr r) ≡ true
+pair_names d x r e =
+    some (is_set_in d r) (is_set_in x.instr r) (x.live (Reg r))
+    (sym (any_live x.live r x.instr (put_live x.live d []) ∙ ap (λ b. b || (is_set_in x.instr r && x.live (Reg r))) (any_live x.live r d [])) ∙ e)
+  where
+    some : (a b l : Bool) → ((a && l) || (b && l)) ≡ true → (a || b) ≡ true
+    some true b l e = refl
+    some false true l e = refl
+    some false false l e = e
