@@ -3,6 +3,11 @@ pub mod Passes
 pub mod Onto
 pub mod PairWith
 pub mod Blockwise
+pub mod Named
+pub mod Forms
+pub mod Distinct
+pub mod Virtuals
+pub mod Straight
 pub mod RunsRead
 pub mod RunsReplace
 pub mod RunsWithin

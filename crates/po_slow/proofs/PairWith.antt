@@ -1,28 +1,27 @@
 -- The pair of the last done instruction and the next one: it is well formed, and it tells what is live after the next one.
-use Rattle.std.proofs.Common.{◌≡◌, ℕ, Bool, true, false, List, [], ◌∷◌, ◌++◌, Option, Some, None, Ordering, Less, Equal, Greater, refl, sym, ap, ◌∙◌, subst, arith}
+use Rattle.std.proofs.Common.{◌≡◌, ℕ, Bool, true, false, List, [], ◌∷◌, Some, Ordering, Less, Equal, Greater, refl, sym, ap, ◌∙◌, arith}
 use Rattle.std.specs.Prelude.{All, IsTrue, is_some, ◌||◌, ◌&&◌, ◌==◌, if◌then◌else◌}
 use Rattle.std.specs.List.{list_any}
 use Rattle.std.specs.Ordering.{is_eq, nat_cmp, match_ordering}
 use Rattle.std.specs.BTreeSet.{insert_key}
-use Rattle.std.proofs.lemmas.Bool.{false≢true, true≢false}
+use Rattle.std.proofs.lemmas.Bool.{false≢true}
 use Rattle.std.proofs.lemmas.Bool.Decides.{nat_tests}
 use Rattle.std.proofs.lemmas.List.Elements.{All-nil}
 use Rattle.std.proofs.lemmas.Map.Views.{All-insert_key}
 use Rattle.po_term.specs.declared.term.Reg.{Reg as Register}
 use Rattle.po_term.specs.declared.term.Reg.TheVariants.{Virt, Fp, Rv, Arg}
 use Rattle.po_term.specs.contracts.term.RegOrd.TheImpl.{cmp-value}
-use Rattle.po_term.specs.Terms.{Place, InReg}
+use Rattle.po_term.specs.Terms.{InReg}
 use Rattle.po_term.specs.Moves.{SetTo, CcTo, StoreTo, Ends}
 use Rattle.po_term.specs.Form.{WellFormed}
 use Rattle.po_term.specs.Simplified.{reg_eq}
 use Rattle.po_model.specs.declared.var.Var.{Var}
-use Rattle.po_model.specs.declared.var.Var.TheVariants.{Reg, Cc}
+use Rattle.po_model.specs.declared.var.Var.TheVariants.{Reg}
 use Rattle.po_model.specs.Blocks.{PlainInstr}
 use Rattle.po_model.specs.Parts.{plainly, right_at}
-use Rattle.po_model.specs.Pairs.{PlainPair, is_live_after, is_set_in, WellFormedPair}
+use Rattle.po_model.specs.Pairs.{is_live_after, is_set_in, WellFormedPair}
 use Rattle.po_model.specs.Scanned.{Ahead, put_live, pair_with}
 use Rattle.po_subst.proofs.Agreeing.{one_register, reg_self}
-use Rattle.po_subst.proofs.Alike.{or_false}
 use Rattle.po_subst.proofs.Reading.{left_true, right_true}
 use Rattle.po_slow.specs.KeepsEffect.{IsLiveAfter}
 
@@ -143,3 +142,14 @@ pair_tells d x = record {
     both true false false e = refl
     both false true l e = refl
     both false false l e = absurd (false≢true e)
+
+-- what the pair names as live, one of the two sets
+pub pair_names : (d : PlainInstr) (x : Ahead) (r : Register) → is_live_after (pair_with d x) r ≡ true → (is_set_in d r || is_set_in x.instr r) ≡ true
+pair_names d x r e =
+    some (is_set_in d r) (is_set_in x.instr r) (x.live (Reg r))
+    (sym (any_live x.live r x.instr (put_live x.live d []) ∙ ap (λ b. b || (is_set_in x.instr r && x.live (Reg r))) (any_live x.live r d [])) ∙ e)
+  where
+    some : (a b l : Bool) → ((a && l) || (b && l)) ≡ true → (a || b) ≡ true
+    some true b l e = refl
+    some false true l e = refl
+    some false false l e = e
