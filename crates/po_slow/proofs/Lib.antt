@@ -1,3 +1,4 @@
 pub mod Sound
 pub mod Passes
 pub mod LivenessEndings
+pub mod LivenessPairs

@@ -9,7 +9,7 @@ use Rattle.po_word.specs.Words.{rel_value}
 use Rattle.po_term.specs.declared.term.Reg.{Reg as Register}
 use Rattle.po_term.specs.declared.term.Sym.{Sym}
 use Rattle.po_term.specs.declared.term.Label.{Label}
-use Rattle.po_term.specs.Tree.{Tree, Const, Leaf, Read, Unary, Binary}
+use Rattle.po_term.specs.Tree.{Const}
 use Rattle.po_term.specs.Terms.{Place}
 use Rattle.po_term.specs.Moves.{Ending, GoTo, IfCc, IfTwo, CallOf, Return, SetTo, CcTo, StoreTo, Ends}
 use Rattle.po_term.specs.Kinds.{words, Met, give}
