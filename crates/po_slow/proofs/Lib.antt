@@ -4,3 +4,4 @@ pub mod LivenessEndings
 pub mod LivenessPairs
 pub mod LivenessFlow
 pub mod LivenessPass
+pub mod LivenessCode
