@@ -8,6 +8,11 @@ pub mod Forms
 pub mod Distinct
 pub mod Virtuals
 pub mod Straight
+pub mod LivenessEndings
+pub mod LivenessPairs
+pub mod LivenessFlow
+pub mod LivenessPass
+pub mod LivenessCode
 pub mod RunsRead
 pub mod RunsReplace
 pub mod RunsWithin
