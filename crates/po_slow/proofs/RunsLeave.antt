@@ -22,8 +22,9 @@ use Rattle.po_model.specs.Effect.{Control, Next, Jump, Called, Returned, Done, a
 use Rattle.po_model.specs.LiveAfter.{is_reg, is_cc, IsLive}
 use Rattle.po_model.specs.Run.{Write, Reply, IsReply, Call, Before, Behind, Run, written, replied, if_there, stands_before, answered, leave, LiveWhere}
 use Rattle.po_slow.proofs.Blockwise.{label_of, same_length}
+use Rattle.po_slow.proofs.LivenessEndings.{same_ending}
 use Rattle.po_slow.proofs.RunsRead.{Variables, Passing, Agree, agree_less, reg_swap}
-use Rattle.po_slow.proofs.RunsReplace.{doing, one_ending, doing_next, alone}
+use Rattle.po_slow.proofs.RunsReplace.{doing, doing_next, alone}
 use Rattle.po_slow.proofs.RunsWithin.{OutOf}
 
 -- Where control may lead
@@ -76,7 +77,7 @@ module _ (code : List PlainBlock) where
   -- behind a block, by its last instruction
   pub block_may : (xs : List PlainInstr) → EndsLast xs → (s : State) (d : Done) → doing xs s ≡ Some d → MayGo (block_ending xs) d.to
   block_may [] k s d e = let n : record { state = s; to = Next } ≡ d = (cc) in subst (λ (z : Done). MayGo None z.to) n refl
-  block_may (x ∷ []) k s d e = subst (λ o. MayGo o d.to) (sym (one_ending x)) (effect_may x s d (sym (alone (effect x s)) ∙ e))
+  block_may (x ∷ []) k s d e = subst (λ o. MayGo o d.to) (sym (same_ending x)) (effect_may x s d (sym (alone (effect x s)) ∙ e))
   block_may (x ∷ y ∷ ys) k s d e = block_may (y ∷ ys) k.1 (after s x) d (sym (doing_next x k.0 (y ∷ ys) s) ∙ e)
 
   or_first : (a b : Bool) → a ≡ true → (a || b) ≡ true

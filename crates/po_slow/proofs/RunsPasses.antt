@@ -11,10 +11,12 @@ use Rattle.po_model.specs.Pairs.{PlainPair}
 use Rattle.po_model.specs.Run.{Reply, IsReply, Run, starts, run, StartAlike, SameResult}
 use Rattle.po_model.specs.Scanned.{Ahead, Tells, IsSlowed}
 use Rattle.po_model.specs.UnitCodes.{IsStraight}
-use Rattle.po_slow.specs.Passes.{IsFormedCode}
+use Rattle.po_slow.specs.Passes.{IsFormedCode, PassesKeepRuns}
 use Rattle.po_slow.proofs.Passes.{Told, Laws, by_passes}
 use Rattle.po_slow.proofs.Onto.{onto, onto_reverse}
 use Rattle.po_slow.proofs.Blockwise.{label_of, all_blocks, same_length}
+use Rattle.po_slow.proofs.LivenessPass.{Standing}
+use Rattle.po_slow.proofs.LivenessCode.{MakesNothingLive, liveness_laws}
 use Rattle.po_slow.proofs.RunsRead.{Alike, alike_self}
 use Rattle.po_slow.proofs.RunsReplace.{AreFormed, Replaces, doing}
 use Rattle.po_slow.proofs.RunsWithin.{OutOf, Within, within_start, within_taken, within_dropped, within_gone, within_one}
@@ -42,16 +44,19 @@ at_all P (x ∷ xs) (y ∷ ys) e n h (suc b) = at_all (λ c. P (suc c)) xs ys (o
 
 -- A pass
 
-module _ (m : Machine) (allowed : IsMachine m) (Shrinks : List PlainBlock → List PlainBlock → Type 0) (Flows : List PlainBlock → Told → ℕ → List PlainInstr → List Ahead → Type 0)
-    (shrinking : Laws m IsFormedCode Shrinks Flows) (lives : (code next : List PlainBlock) → Shrinks code next → LivesIn next code) where
+module _ (m : Machine) (allowed : IsMachine m) where
   formed_at : (code : List PlainBlock) → IsFormedCode code → (b : ℕ) → AreFormed (instrs_at code b)
   formed_at code before b = are_formed (instrs_at code b) (each_block (λ xs. All WellFormed xs) (All-nil WellFormed) code b before.formed)
 
   ends_at : (code : List PlainBlock) → IsFormedCode code → (b : ℕ) → EndsLast (instrs_at code b)
   ends_at code before b = each_block EndsLast tt code b before.ends_last
 
+  -- where the scan of a block stands: it does what the block did, and makes nothing live
   abbrev Holds : List PlainBlock → Told → ℕ → List PlainInstr → List Ahead → Type 0
-  Holds code live b done rest = Within code b done rest × Flows code live b done rest
+  Holds code live b done rest = Within code b done rest × Standing m code b done rest
+
+  shrinking : Laws m IsFormedCode (MakesNothingLive m) (λ code live b done rest. Standing m code b done rest)
+  shrinking = liveness_laws m allowed
 
   -- what was done of a block is what it is after the pass
   done_within : (code next : List PlainBlock) (b : ℕ) → Within code b (reverse (instrs_at next b)) [] → AreFormed (instrs_at next b) × EndsLast (instrs_at next b) × Replaces (OutOf code b) (instrs_at code b) (instrs_at next b)
@@ -65,7 +70,7 @@ module _ (m : Machine) (allowed : IsMachine m) (Shrinks : List PlainBlock → Li
   over : (code : List PlainBlock) (live : Told) → IsFormedCode code → Tells code live → (next : List PlainBlock) → map label_of next ≡ map label_of code → ((b : ℕ) → b < length code → Holds code live b (reverse (instrs_at next b)) []) → RunsAs code next × IsFormedCode next
   over code live before tells next labels h =
       let long = same_length next code labels in
-      let smaller = lives code next (shrinking.over code live before tells next labels (λ b l. (h b l).1)).0 in
+      let smaller = (shrinking.over code live before tells next labels (λ b l. (h b l).1)).0.live in
       let at = λ (b : ℕ) (l : b < length code). done_within code next b (h b l).0 in
       let same = at_all (λ b xs ys. Replaces (OutOf code b) xs ys) code next long (λ b s fits. alike_self (OutOf code b) (doing [] s) fits) (λ b l. (at b l).2) in (
         record {
@@ -105,8 +110,11 @@ module _ (m : Machine) (allowed : IsMachine m) (Shrinks : List PlainBlock → Li
   same_result slowed None (Some y) t = absurd t
   same_result slowed (Some x) None t = absurd t
 
-  pub slowed_runs : (code slowed : List PlainBlock) (pairs : List PlainPair) → IsFormedCode code → IsSlowed m code pairs slowed → IsStraight code
+  slowed_runs : (code slowed : List PlainBlock) (pairs : List PlainPair) → IsFormedCode code → IsSlowed m code pairs slowed → IsStraight code
       → (n : ℕ) (s t : State) (replies : List Reply) → StartAlike code s t → All IsReply replies → SameResult slowed (λ r. r) (run code n (starts s replies)) (run slowed n (starts t replies))
   slowed_runs code slowed pairs before is straight n s t replies a h =
       let alike = (by_passes runs_laws code slowed pairs before is).0 in
       same_result slowed (run code n (starts s replies)) (run slowed n (starts t replies)) (alike.runs n (starts s replies) (starts t replies) (starts_together code straight s t replies a h))
+
+pub passes_keep_runs : PassesKeepRuns
+passes_keep_runs m code slowed pairs allowed before is straight n s t replies a h = slowed_runs m allowed code slowed pairs before is straight n s t replies a h

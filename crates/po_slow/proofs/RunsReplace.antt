@@ -12,6 +12,7 @@ use Rattle.po_model.specs.Parts.{ending_of as end_of}
 use Rattle.po_model.specs.Effect.{Control, Next, Jump, Called, Returned, Done, after, goes, effect}
 use Rattle.po_model.specs.Run.{then_on, and_on, in_turn}
 use Rattle.po_slow.proofs.Onto.{onto}
+use Rattle.po_slow.proofs.LivenessEndings.{same_ending}
 use Rattle.po_slow.proofs.RunsRead.{Variables, Passing, Agree, Alike, BeforeOne, IsInstr, instr_formed, LeavesWords, after_fits, after_agree, effect_agree, effect_fits}
 
 -- what these instructions do, one after another
@@ -36,17 +37,10 @@ AreCalm (x ∷ xs) = (ending_of x ≡ None) × AreCalm xs
 abbrev pub Replaces : Variables → List PlainInstr → List PlainInstr → Type 0
 Replaces L xs ys = (s : State) → IsState s → Alike L (doing xs s) (doing ys s)
 
--- an instruction without a transfer of control
-
-pub one_ending : (ms : PlainInstr) → ending_of ms ≡ end_of ms
-one_ending [] = refl
-one_ending (SetTo r t ∷ ms) = one_ending ms
-one_ending (CcTo t u ∷ ms) = one_ending ms
-one_ending (StoreTo t u ∷ ms) = one_ending ms
-one_ending (Ends e ∷ ms) = refl
+-- An instruction without a transfer of control
 
 pub goes_next : (x : PlainInstr) → ending_of x ≡ None → (s : State) → goes s (end_of x) ≡ Some Next
-goes_next x n s = ap (λ e. goes s e) (sym (one_ending x) ∙ n)
+goes_next x n s = ap (λ e. goes s e) (sym (same_ending x) ∙ n)
 
 pub effect_next : (x : PlainInstr) → ending_of x ≡ None → (s : State) → effect x s ≡ Some (record { state = after s x; to = Next })
 effect_next x n s = ap (λ o. option_map (λ c. record { state = after s x; to = c }) o) (goes_next x n s)

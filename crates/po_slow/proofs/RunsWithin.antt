@@ -29,20 +29,15 @@ use Rattle.po_slow.proofs.Sound.{answer_keeps}
 use Rattle.po_slow.proofs.Onto.{onto}
 use Rattle.po_slow.proofs.Blockwise.{instrs_in, ahead_instrs}
 use Rattle.po_slow.proofs.PairWith.{pair_formed, pair_tells}
+use Rattle.po_slow.proofs.LivenessEndings.{same_ending}
+use Rattle.po_slow.proofs.LivenessFlow.{dead_ending}
 use Rattle.po_slow.proofs.RunsRead.{Variables, Passing, Agree, Alike, LeavesWords, instr_formed, alike_joins, alike_self, passing_in, after_fits, effect_fits}
-use Rattle.po_slow.proofs.RunsReplace.{doing, Back, AreFormed, AreCalm, Replaces, one_ending, effect_next, doing_next, doing_fits, behind, goes_on_to, ends_rest, ends_split, ends_onto, formed_split, formed_onto, onto_replaces}
+use Rattle.po_slow.proofs.RunsReplace.{doing, Back, AreFormed, AreCalm, Replaces, effect_next, doing_next, doing_fits, behind, goes_on_to, ends_rest, ends_split, ends_onto, formed_split, formed_onto, onto_replaces}
 
 -- A dead instruction
 
 -- a list of transfers that only sets what isn't live does nothing else
 module _ (live : Var → Bool) where
-  dead_ending : (ms : PlainInstr) → is_dead live ms ≡ true → ending_of ms ≡ None
-  dead_ending [] h = refl
-  dead_ending (SetTo r t ∷ ms) h = dead_ending ms (and_parts (not (live (Reg r))) (is_dead live ms) h).1
-  dead_ending (CcTo t u ∷ ms) h = dead_ending ms (and_parts (not (live Cc)) (is_dead live ms) h).1
-  dead_ending (StoreTo t u ∷ ms) h = absurd (false≢true h)
-  dead_ending (Ends e ∷ ms) h = absurd (false≢true h)
-
   dead_store : (ms : PlainInstr) → is_dead live ms ≡ true → store_of ms ≡ None
   dead_store [] h = refl
   dead_store (SetTo r t ∷ ms) h = dead_store ms (and_parts (not (live (Reg r))) (is_dead live ms) h).1
@@ -84,15 +79,17 @@ IsToldBy L live = (v : Var) → L v → live v ≡ true
 
 dead_alike : (L : Variables) (live : Var → Bool) (x : PlainInstr) → IsToldBy L live → WellFormed x → is_dead live x ≡ true → (s : State) → IsState s → Alike L (effect x s) (effect [] s)
 dead_alike L live x told f h s fits =
-    rw (effect_next x (dead_ending live x h) s)
-    (refl, record {
-      first = after_fits s fits x (instr_formed x f).0;
-      second = fits;
-      memory = λ a. ap (λ o. new_memory s o a) (dead_store live x h);
-      symbols = λ y. ap (λ o. new_word s o (s.place (AtSym y))) (symbol_unset y x);
-      registers = λ r l. ap (λ o. new_word s o (s.place (InReg r))) (dead_right live r x h (told (Reg r) l));
-      compared = λ l. ap (λ o. new_cc s o) (dead_cc live x h (told Cc l));
-    })
+    rw (effect_next x (dead_ending live x h) s) (
+      refl,
+      record {
+        first = after_fits s fits x (instr_formed x f).0;
+        second = fits;
+        memory = λ a. ap (λ o. new_memory s o a) (dead_store live x h);
+        symbols = λ y. ap (λ o. new_word s o (s.place (AtSym y))) (symbol_unset y x);
+        registers = λ r l. ap (λ o. new_word s o (s.place (InReg r))) (dead_right live r x h (told (Reg r) l));
+        compared = λ l. ap (λ o. new_cc s o) (dead_cc live x h (told Cc l));
+      },
+    )
 
 -- A pair
 
@@ -176,9 +173,10 @@ dropped_more (suc i) (y ∷ ys) x xs e = let ih = dropped_more i ys x xs e in (o
 start_told : (code : List PlainBlock) (live : ℕ → ℕ → Var → Bool) → Tells code live → (b i : ℕ) (xs : List PlainInstr) → xs ≡ drop i (instrs_at code b) → AreTold code b (instrs_ahead (live b) i xs)
 start_told code live tells b i [] e = tt
 start_told code live tells b i (x ∷ xs) e =
-    let more = dropped_more i (instrs_at code b) x xs e in
-    (λ v h. (tells b i v more.0).1 (subst (λ (ys : List PlainInstr). IsLive code v (record { block = b; rest = ys })) more.1 (back_live code b xs v (subst (λ (ys : List PlainInstr). Back ys (OutOf code b) v) (ahead_instrs (live b) (suc i) xs) h))),
-    start_told code live tells b (suc i) xs more.1)
+    let more = dropped_more i (instrs_at code b) x xs e in (
+      λ v h. (tells b i v more.0).1 (subst (λ (ys : List PlainInstr). IsLive code v (record { block = b; rest = ys })) more.1 (back_live code b xs v (subst (λ (ys : List PlainInstr). Back ys (OutOf code b) v) (ahead_instrs (live b) (suc i) xs) h))),
+      start_told code live tells b (suc i) xs more.1,
+    )
 
 pub within_start : (code : List PlainBlock) (live : ℕ → ℕ → Var → Bool) → Tells code live → (b : ℕ) → AreFormed (instrs_at code b) → EndsLast (instrs_at code b) → Within code b [] (instrs_ahead (live b) 0 (instrs_at code b))
 within_start code live tells b f k =
@@ -214,7 +212,7 @@ within_dropped code b done x xs w h =
 
 still_ends : (x y : PlainInstr) (xs : List PlainInstr) → (is_some (end_of x) ≡ false → is_some (end_of y) ≡ false) → EndsLast (x ∷ xs) → EndsLast (y ∷ xs)
 still_ends x y [] h k = tt
-still_ends x y (z ∷ zs) h k = (one_ending y ∙ none (end_of y) (h (ap is_some (sym (one_ending x) ∙ k.0))), k.1)
+still_ends x y (z ∷ zs) h k = (same_ending y ∙ none (end_of y) (h (ap is_some (sym (same_ending x) ∙ k.0))), k.1)
   where
     none : {X : Type 0} (o : Option X) → is_some o ≡ false → o ≡ None
     none None e = refl

@@ -7,8 +7,10 @@ mod laws;
 #[cfg(test)]
 mod machine;
 mod pair;
+mod run_laws;
 #[cfg(test)]
 mod tests;
 
 pub use laws::combination_keeps_effect;
 pub use pair::slow_pair;
+pub use run_laws::passes_keep_runs;
