@@ -1,15 +1,15 @@
 -- Runs of a code and of what a pass makes of it, block by block.
-use Rattle.std.proofs.Common.{◌≡◌, ℕ, zero, suc, List, [], ◌∷◌, map, refl, sym, ◌∙◌, ap, subst}
-use Rattle.std.specs.Prelude.{All, Option, Some, None, ⊤}
+use Rattle.std.proofs.Common.{◌≡◌, ℕ, zero, suc, List, [], ◌∷◌, map, refl, sym, ◌∙◌, subst}
+use Rattle.std.specs.Prelude.{All, Option, Some, None}
 use Rattle.std.proofs.lemmas.List.Elements.{All-head, All-tail}
-use Rattle.po_term.specs.Terms.{State, IsState}
+use Rattle.po_term.specs.Terms.{State}
 use Rattle.po_model.specs.declared.var.Var.{Var}
 use Rattle.po_model.specs.Blocks.{PlainInstr, PlainBlock, instrs_at, EndsLast, ending_at}
 use Rattle.po_model.specs.Effect.{Control, Done}
 use Rattle.po_model.specs.Run.{Reply, IsReply, Call, Stop, Before, Behind, Run, leave_done, run_block, and_run, own_doings, run, LiveWhere}
 use Rattle.po_slow.specs.Passes.{IsLiveAt}
 use Rattle.po_slow.proofs.Blockwise.{label_of}
-use Rattle.po_slow.proofs.RunsRead.{Variables, Passing, Agree, Alike, alike_joins, agree_less, agree_self, agree_joins}
+use Rattle.po_slow.proofs.RunsRead.{Agree, Alike, alike_joins, agree_less, agree_self, agree_joins}
 use Rattle.po_slow.proofs.RunsReplace.{doing, Back, AreFormed, Replaces, doing_agree}
 use Rattle.po_slow.proofs.RunsWithin.{OutOf, back_live}
 use Rattle.po_slow.proofs.RunsLeave.{MayGo, block_may, Together, BothStand, leave_stands}

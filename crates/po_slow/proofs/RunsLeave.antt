@@ -5,21 +5,21 @@ use Rattle.std.specs.Option.{option_map}
 use Rattle.std.proofs.Math.Path.{fun_ext}
 use Rattle.std.proofs.lemmas.Bool.{false≢true}
 use Rattle.std.proofs.lemmas.List.Elements.{All-head, All-tail}
-use mathlib.Core.Logic.{◌⊎◌, inl, inr}
+use mathlib.Core.Logic.{inl, inr}
 use Rattle.po_word.specs.Words.{rel_value}
 use Rattle.po_term.specs.declared.term.Reg.{Reg as Register}
 use Rattle.po_term.specs.declared.term.Reg.TheVariants.{Rv}
 use Rattle.po_term.specs.declared.term.Sym.{Sym}
 use Rattle.po_term.specs.declared.term.Label.{Label}
-use Rattle.po_term.specs.Terms.{Place, InReg, AtSym, State, IsState, value}
+use Rattle.po_term.specs.Terms.{Place, InReg, State, IsState, value}
 use Rattle.po_term.specs.Moves.{Ending, GoTo, IfCc, IfTwo, CallOf, Return}
 use Rattle.po_term.specs.Simplified.{reg_eq, same_register}
 use Rattle.po_model.specs.declared.var.Var.{Var}
-use Rattle.po_model.specs.declared.var.Var.TheVariants.{Reg, Cc}
-use Rattle.po_model.specs.Blocks.{PlainInstr, PlainBlock, instrs_at, EndsLast, block_ending, block_with, block_from, has_label, target_by, goes_on, is_at, ending_at, leads}
+use Rattle.po_model.specs.declared.var.Var.TheVariants.{Reg}
+use Rattle.po_model.specs.Blocks.{PlainInstr, PlainBlock, instrs_at, EndsLast, block_ending, block_with, block_from, target_by, goes_on, is_at, ending_at, leads}
 use Rattle.po_model.specs.Parts.{ending_of as end_of}
 use Rattle.po_model.specs.Effect.{Control, Next, Jump, Called, Returned, Done, after, branch, by_cc, goes, effect}
-use Rattle.po_model.specs.LiveAfter.{is_reg, is_cc, IsLive}
+use Rattle.po_model.specs.LiveAfter.{is_reg, is_cc}
 use Rattle.po_model.specs.Run.{Write, Reply, IsReply, Call, Before, Behind, Run, written, replied, if_there, stands_before, answered, leave, LiveWhere}
 use Rattle.po_slow.proofs.Blockwise.{label_of, same_length}
 use Rattle.po_slow.proofs.LivenessEndings.{same_ending}

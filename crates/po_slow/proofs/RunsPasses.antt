@@ -1,11 +1,11 @@
 -- All passes over a code keep its runs.
-use Rattle.std.proofs.Common.{◌≡◌, ℕ, zero, suc, ◌<◌, List, [], ◌∷◌, length, reverse, map, refl, sym, ◌∙◌, ap, subst, arith}
-use Rattle.std.specs.Prelude.{All, Option, Some, None, ⊤}
+use Rattle.std.proofs.Common.{◌≡◌, ℕ, zero, suc, ◌<◌, List, [], ◌∷◌, length, reverse, map, subst, arith}
+use Rattle.std.specs.Prelude.{All, Option, Some, None}
 use Rattle.std.proofs.lemmas.List.Elements.{All-nil, All-cons, All-head, All-tail}
-use Rattle.po_term.specs.Terms.{State, IsState}
+use Rattle.po_term.specs.Terms.{State}
 use Rattle.po_term.specs.Form.{WellFormed}
 use Rattle.po_model.specs.declared.machine.Machine.{Machine}
-use Rattle.po_model.specs.Blocks.{PlainInstr, PlainBlock, IsCode, instrs_at, EndsLast}
+use Rattle.po_model.specs.Blocks.{PlainInstr, PlainBlock, instrs_at, EndsLast}
 use Rattle.po_model.specs.Machines.{IsMachine}
 use Rattle.po_model.specs.Pairs.{PlainPair}
 use Rattle.po_model.specs.Run.{Reply, IsReply, Run, starts, run, StartAlike, SameResult}
@@ -13,15 +13,15 @@ use Rattle.po_model.specs.Scanned.{Ahead, Tells, IsSlowed}
 use Rattle.po_model.specs.UnitCodes.{IsStraight}
 use Rattle.po_slow.specs.Passes.{IsFormedCode, PassesKeepRuns}
 use Rattle.po_slow.proofs.Passes.{Told, Laws, by_passes}
-use Rattle.po_slow.proofs.Onto.{onto, onto_reverse}
+use Rattle.po_slow.proofs.Onto.{onto_reverse}
 use Rattle.po_slow.proofs.Blockwise.{label_of, all_blocks, same_length}
 use Rattle.po_slow.proofs.LivenessPass.{Standing}
 use Rattle.po_slow.proofs.LivenessCode.{MakesNothingLive, liveness_laws}
-use Rattle.po_slow.proofs.RunsRead.{Alike, alike_self}
+use Rattle.po_slow.proofs.RunsRead.{alike_self}
 use Rattle.po_slow.proofs.RunsReplace.{AreFormed, Replaces, doing}
 use Rattle.po_slow.proofs.RunsWithin.{OutOf, Within, within_start, within_taken, within_dropped, within_gone, within_one}
-use Rattle.po_slow.proofs.RunsLeave.{Together, BothStand}
-use Rattle.po_slow.proofs.RunsBlocks.{LivesIn, RunsAs, each_block, runs_join, both_less, blocks_stand}
+use Rattle.po_slow.proofs.RunsLeave.{BothStand}
+use Rattle.po_slow.proofs.RunsBlocks.{RunsAs, each_block, runs_join, both_less, blocks_stand}
 use Rattle.po_slow.proofs.RunsStart.{starts_together}
 
 -- The blocks of a code in form

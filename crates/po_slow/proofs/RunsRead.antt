@@ -1,11 +1,9 @@
 -- An instruction reads only what is live before it: from two states that agree there it goes on alike, and leaves states that agree.
-use Rattle.std.proofs.Common.{◌≡◌, ℕ, zero, suc, ◌+◌, ◌<◌, ◌^◌, Bool, true, false, List, [], ◌∷◌, refl, sym, ◌∙◌, ap, subst, arith}
-use Rattle.std.specs.Prelude.{◌==◌, not, ◌||◌, ◌&&◌, nat_lt, if◌then◌else◌, Option, Some, None, ⊤}
+use Rattle.std.proofs.Common.{◌≡◌, ℕ, zero, suc, ◌+◌, ◌<◌, ◌^◌, Bool, true, false, [], ◌∷◌, refl, sym, ◌∙◌, ap, subst, arith}
+use Rattle.std.specs.Prelude.{◌==◌, ◌||◌, nat_lt, if◌then◌else◌, Option, Some, None, ⊤}
 use Rattle.std.specs.Option.{option_map}
-use Rattle.std.proofs.lemmas.Bool.{false≢true, true≢false}
 use mathlib.Core.Logic.{◌⊎◌, inl, inr}
-use Rattle.po_word.specs.declared.operator.Rel.{Rel}
-use Rattle.po_word.specs.Words.{un_value, bin_value, rel_value}
+use Rattle.po_word.specs.Words.{un_value, bin_value}
 use Rattle.po_term.specs.declared.term.Reg.{Reg as Register}
 use Rattle.po_term.specs.declared.term.Reg.TheVariants.{Virt, Fp, Rv, Arg}
 use Rattle.po_term.specs.declared.term.Sym.{Sym}
@@ -15,8 +13,7 @@ use Rattle.po_term.specs.Terms.{Place, InReg, AtSym, State, IsState, value}
 use Rattle.po_term.specs.Moves.{Ending, GoTo, IfCc, IfTwo, CallOf, Return, SetTo, CcTo, StoreTo, Ends}
 use Rattle.po_term.specs.Form.{PlainMove, WellFormed}
 use Rattle.po_term.specs.Simplified.{reg_eq, same_register}
-use Rattle.po_term.specs.Worth.{HasWords}
-use Rattle.po_term.specs.Actions.{MoveHasWords, MovesHaveWords}
+use Rattle.po_term.specs.Actions.{MovesHaveWords}
 use Rattle.po_simplify.proofs.Worths.{value_fits}
 use Rattle.po_model.specs.declared.var.Var.{Var}
 use Rattle.po_model.specs.declared.var.Var.TheVariants.{Reg, Cc}
@@ -25,7 +22,7 @@ use Rattle.po_model.specs.Parts.{plainly, right_at, cc_of, store_of, ending_of}
 use Rattle.po_model.specs.Effect.{Control, Next, Jump, Called, Returned, Done, new_word, new_memory, new_cc, after, branch, by_cc, arguments, goes, effect}
 use Rattle.po_model.specs.LiveAfter.{is_reg, is_cc, is_arg_of, term_reads, move_reads, move_sets, reads, sets}
 use Rattle.po_subst.proofs.Agreeing.{reg_self}
-use Rattle.po_subst.proofs.Alike.{IsSingle, or_false}
+use Rattle.po_subst.proofs.Alike.{IsSingle}
 use Rattle.po_subst.proofs.Joint.{single_of, words_of}
 use Rattle.po_subst.proofs.Reading.{left_true, right_true}
 

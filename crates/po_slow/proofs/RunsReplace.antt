@@ -1,11 +1,9 @@
 -- Instructions one after another: they read only what is live before them, and some may stand for others with the rest of the block
 -- behind them.
-use Rattle.std.proofs.Common.{◌≡◌, List, [], ◌∷◌, ◌++◌, reverse, map, refl, sym, ◌∙◌, ap, subst}
-use Rattle.std.specs.Prelude.{true, false, Option, Some, None, ⊤}
+use Rattle.std.proofs.Common.{◌≡◌, List, [], ◌∷◌, map, refl, sym, ◌∙◌, ap, subst}
+use Rattle.std.specs.Prelude.{Option, Some, None, ⊤}
 use Rattle.std.specs.Option.{option_map}
-use Rattle.po_term.specs.declared.term.Reg.{Reg as Register}
 use Rattle.po_term.specs.Terms.{State, IsState}
-use Rattle.po_term.specs.Moves.{SetTo, CcTo, StoreTo, Ends}
 use Rattle.po_term.specs.Form.{WellFormed}
 use Rattle.po_model.specs.Blocks.{PlainInstr, EndsLast, ending_of}
 use Rattle.po_model.specs.Parts.{ending_of as end_of}
@@ -13,7 +11,7 @@ use Rattle.po_model.specs.Effect.{Control, Next, Jump, Called, Returned, Done, a
 use Rattle.po_model.specs.Run.{then_on, and_on, in_turn}
 use Rattle.po_slow.proofs.Onto.{onto}
 use Rattle.po_slow.proofs.LivenessEndings.{same_ending}
-use Rattle.po_slow.proofs.RunsRead.{Variables, Passing, Agree, Alike, BeforeOne, IsInstr, instr_formed, LeavesWords, after_fits, after_agree, effect_agree, effect_fits}
+use Rattle.po_slow.proofs.RunsRead.{Variables, Passing, Agree, Alike, BeforeOne, instr_formed, LeavesWords, after_fits, after_agree, effect_agree, effect_fits}
 
 -- what these instructions do, one after another
 abbrev pub doing : List PlainInstr → State → Option Done

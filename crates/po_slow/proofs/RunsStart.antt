@@ -1,18 +1,17 @@
 -- Where a straight code starts, no virtual register is live, so starts that agree stand alike.
-use Rattle.std.proofs.Common.{◌≡◌, ℕ, zero, suc, ◌<◌, Bool, true, false, List, [], ◌∷◌, ◌++◌, length, refl, sym, ◌∙◌, ap, subst, arith}
-use Rattle.std.specs.Prelude.{◌||◌, ◌==◌, All, Contains, ⊤}
+use Rattle.std.proofs.Common.{◌≡◌, ℕ, zero, suc, true, List, [], ◌∷◌, ◌++◌, refl, sym, ◌∙◌, subst, arith}
+use Rattle.std.specs.Prelude.{◌||◌, All, Contains}
 use Rattle.std.proofs.lemmas.Bool.{false≢true, true≢false}
-use Rattle.std.proofs.lemmas.List.Elements.{All-head, All-tail, Contains-append_cases}
+use Rattle.std.proofs.lemmas.List.Elements.{Contains-append_cases}
 use mathlib.Core.Logic.{◌⊎◌, inl, inr}
 use Rattle.po_term.specs.declared.term.Reg.{Reg as Register}
 use Rattle.po_term.specs.declared.term.Reg.TheVariants.{Virt, Fp, Rv, Arg}
-use Rattle.po_term.specs.Terms.{InReg, State}
+use Rattle.po_term.specs.Terms.{State}
 use Rattle.po_term.specs.Moves.{SetTo, CcTo, StoreTo, Ends}
 use Rattle.po_term.specs.Simplified.{reg_eq}
-use Rattle.po_model.specs.declared.var.Var.{Var}
-use Rattle.po_model.specs.declared.var.Var.TheVariants.{Reg, Cc}
+use Rattle.po_model.specs.declared.var.Var.TheVariants.{Reg}
 use Rattle.po_model.specs.Blocks.{PlainInstr, PlainBlock, instrs_at}
-use Rattle.po_model.specs.LiveAfter.{move_sets, reads, sets, Point, ReadOn, IsLive}
+use Rattle.po_model.specs.LiveAfter.{move_sets, sets, Point, ReadOn}
 use Rattle.po_model.specs.Run.{IsFixed, Reply, IsReply, Before, starts, LiveWhere, StartAlike}
 use Rattle.po_model.specs.UnitCodes.{written, ReadsBehind, IsStraight}
 use Rattle.po_subst.proofs.Agreeing.{reg_self}

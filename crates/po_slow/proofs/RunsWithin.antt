@@ -1,12 +1,11 @@
 -- Within a pass the instructions of a block, those that are done and those that are to come, do what the block did.
-use Rattle.std.proofs.Common.{◌≡◌, ℕ, zero, suc, ◌<◌, Bool, true, false, List, [], ◌∷◌, ◌++◌, length, drop, reverse, map, refl, sym, ◌∙◌, ap, subst, arith}
+use Rattle.std.proofs.Common.{◌≡◌, ℕ, zero, suc, ◌<◌, Bool, true, false, List, [], ◌∷◌, length, drop, refl, sym, ◌∙◌, ap, subst, arith}
 use Rattle.std.specs.Prelude.{◌||◌, ◌&&◌, not, if◌then◌else◌, is_some, Option, Some, None, ⊤}
-use Rattle.std.specs.List.{list_all}
 use Rattle.std.proofs.lemmas.Bool.{false≢true, true≢false, not-true, and_parts}
-use mathlib.Core.Logic.{◌⊎◌, inl, inr}
+use mathlib.Core.Logic.{inl, inr}
 use Rattle.po_term.specs.declared.term.Reg.{Reg as Register}
 use Rattle.po_term.specs.declared.term.Sym.{Sym}
-use Rattle.po_term.specs.Terms.{Place, InReg, AtSym, State, IsState}
+use Rattle.po_term.specs.Terms.{InReg, AtSym, State, IsState}
 use Rattle.po_term.specs.Moves.{SetTo, CcTo, StoreTo, Ends}
 use Rattle.po_term.specs.Form.{WellFormed}
 use Rattle.po_term.specs.Simplified.{reg_eq}
@@ -15,13 +14,13 @@ use Rattle.po_model.specs.declared.var.Var.{Var}
 use Rattle.po_model.specs.declared.var.Var.TheVariants.{Reg, Cc}
 use Rattle.po_model.specs.Blocks.{PlainInstr, PlainBlock, instrs_at, EndsLast, ending_of}
 use Rattle.po_model.specs.Parts.{plainly, right_at, cc_of, store_of, ending_of as end_of}
-use Rattle.po_model.specs.Effect.{Control, Next, Done, new_word, new_memory, new_cc, after, effect}
+use Rattle.po_model.specs.Effect.{Done, new_word, new_memory, new_cc, after, effect}
 use Rattle.po_model.specs.Keeps.{matters}
-use Rattle.po_model.specs.LiveAfter.{reads, sets, Point, IsLive}
+use Rattle.po_model.specs.LiveAfter.{sets, IsLive}
 use Rattle.po_model.specs.Machines.{IsMachine}
-use Rattle.po_model.specs.Pairs.{PlainPair, is_live_after, is_set_in}
+use Rattle.po_model.specs.Pairs.{is_live_after, is_set_in}
 use Rattle.po_model.specs.Combined.{Gone, AsOne, combination}
-use Rattle.po_model.specs.Scanned.{Answer, Ahead, is_dead_move, is_dead, pair_with, instrs_ahead, Tells}
+use Rattle.po_model.specs.Scanned.{Answer, Ahead, is_dead, pair_with, instrs_ahead, Tells}
 use Rattle.po_subst.proofs.Agreeing.{one_register}
 use Rattle.po_subst.proofs.Reading.{left_true}
 use Rattle.po_slow.specs.KeepsEffect.{SameEnd, SameEffect, effect_of_both, then_effect, KeepsEffect}
