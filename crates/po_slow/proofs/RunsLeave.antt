@@ -3,7 +3,6 @@ use Rattle.std.proofs.Common.{◌≡◌, ℕ, suc, ◌<◌, ◌^◌, Bool, true,
 use Rattle.std.specs.Prelude.{◌==◌, ◌||◌, nat_lt, if◌then◌else◌, All, Option, Some, None, ⊤}
 use Rattle.std.specs.Option.{option_map}
 use Rattle.std.proofs.Math.Path.{fun_ext}
-use Rattle.std.proofs.lemmas.Bool.{false≢true}
 use Rattle.std.proofs.lemmas.List.Elements.{All-head, All-tail}
 use mathlib.Core.Logic.{inl, inr}
 use Rattle.po_word.specs.Words.{rel_value}
@@ -21,9 +20,10 @@ use Rattle.po_model.specs.Parts.{ending_of as end_of}
 use Rattle.po_model.specs.Effect.{Control, Next, Jump, Called, Returned, Done, after, branch, by_cc, goes, effect}
 use Rattle.po_model.specs.LiveAfter.{is_reg, is_cc}
 use Rattle.po_model.specs.Run.{Write, Reply, IsReply, Call, Before, Behind, Run, written, replied, if_there, stands_before, answered, leave, LiveWhere}
+use Rattle.po_subst.proofs.Reading.{left_true, right_true}
 use Rattle.po_slow.proofs.Blockwise.{label_of, same_length}
 use Rattle.po_slow.proofs.LivenessEndings.{same_ending}
-use Rattle.po_slow.proofs.RunsRead.{Variables, Passing, Agree, agree_less, reg_swap}
+use Rattle.po_slow.proofs.RunsRead.{Variables, Passing, Agree, agree_less, if_fits, reg_swap}
 use Rattle.po_slow.proofs.RunsReplace.{doing, doing_next, alone}
 use Rattle.po_slow.proofs.RunsWithin.{OutOf}
 
@@ -80,24 +80,16 @@ module _ (code : List PlainBlock) where
   block_may (x ∷ []) k s d e = subst (λ o. MayGo o d.to) (sym (same_ending x)) (effect_may x s d (sym (alone (effect x s)) ∙ e))
   block_may (x ∷ y ∷ ys) k s d e = block_may (y ∷ ys) k.1 (after s x) d (sym (doing_next x k.0 (y ∷ ys) s) ∙ e)
 
-  or_first : (a b : Bool) → a ≡ true → (a || b) ≡ true
-  or_first true b e = refl
-  or_first false b e = absurd (false≢true e)
-
-  or_second : (a b : Bool) → b ≡ true → (a || b) ≡ true
-  or_second true b e = refl
-  or_second false b e = e
-
   at_some : (o : Option ℕ) (q : ℕ) → o ≡ Some q → is_at q o ≡ true
   at_some None q e = absurd (cc)
   at_some (Some p) q e = let n : p ≡ q = (cc) in rw n (grind arith)
 
   -- to the next block, and to one of a label
   next_leads : (b q : ℕ) → goes_on (ending_at code b) ≡ true → if_there code (suc b) ≡ Some q → leads code b q ≡ true
-  next_leads b q g e = or_second (is_at q (target_by code (ending_at code b))) (is_at q (if nat_lt (suc b) (length code) then (if goes_on (ending_at code b) then Some (suc b) else None) else None)) (rw g (at_some (if_there code (suc b)) q e))
+  next_leads b q g e = right_true (is_at q (target_by code (ending_at code b))) (is_at q (if nat_lt (suc b) (length code) then (if goes_on (ending_at code b) then Some (suc b) else None) else None)) (rw g (at_some (if_there code (suc b)) q e))
 
   jump_leads : (b q : ℕ) (l : Label) → target_by code (ending_at code b) ≡ block_with code l → block_with code l ≡ Some q → leads code b q ≡ true
-  jump_leads b q l t e = or_first (is_at q (target_by code (ending_at code b))) _ (at_some (target_by code (ending_at code b)) q (t ∙ e))
+  jump_leads b q l t e = left_true (is_at q (target_by code (ending_at code b))) _ (at_some (target_by code (ending_at code b)) q (t ∙ e))
 
   -- what is live at the start of a block is live at the end of one that leads to it
   pub live_behind : (b q : ℕ) (v : Var) → leads code b q ≡ true → LiveWhere code (Before q) v → OutOf code b v
@@ -110,20 +102,16 @@ written_same : (ws : List Write) (f g : ℕ → ℕ) → ((a : ℕ) → f a ≡ 
 written_same [] f g h a = h a
 written_same (w ∷ ws) f g h a = written_same ws (λ b. if b == w.address then w.word else f b) (λ b. if b == w.address then w.word else g b) (λ b. ap (λ x. if b == w.address then w.word else x) (h b)) a
 
-either_fits : (b : Bool) (v w : ℕ) → v < 2 ^ 32 → w < 2 ^ 32 → (if b then v else w) < 2 ^ 32
-either_fits true v w h k = h
-either_fits false v w h k = k
-
 abbrev IsWordWrite : Write → Type 0
 IsWordWrite w = w.word < 2 ^ 32
 
 written_fits : (ws : List Write) (f : ℕ → ℕ) → All IsWordWrite ws → ((a : ℕ) → f a < 2 ^ 32) → (a : ℕ) → written ws f a < 2 ^ 32
 written_fits [] f h k a = k a
-written_fits (w ∷ ws) f h k a = written_fits ws (λ b. if b == w.address then w.word else f b) (All-tail IsWordWrite w ws h) (λ b. either_fits (b == w.address) w.word (f b) (All-head IsWordWrite w ws h) (k b)) a
+written_fits (w ∷ ws) f h k a = written_fits ws (λ b. if b == w.address then w.word else f b) (All-tail IsWordWrite w ws h) (λ b. if_fits (b == w.address) w.word (f b) (All-head IsWordWrite w ws h) (k b)) a
 
 replied_fits : (r : Reply) (s : State) → IsReply r → IsState s → IsState (replied r s)
 replied_fits r s h fits = record {
-  places = λ p. either_fits (same_register p (InReg Rv)) r.word (s.place p) h.word (fits.places p);
+  places = λ p. if_fits (same_register p (InReg Rv)) r.word (s.place p) h.word (fits.places p);
   cells = written_fits r.writes s.memory h.writes fits.cells;
 }
 

@@ -126,11 +126,11 @@ alike_self L (Some d) h = (refl, agree_self (Passing d.to L) d.state h)
 
 -- An instruction leaves words
 
-module _ (s : State) (fits : IsState s) where
-  if_fits : (b : Bool) (v w : ℕ) → v < 2 ^ 32 → w < 2 ^ 32 → (if b then v else w) < 2 ^ 32
-  if_fits true v w h k = h
-  if_fits false v w h k = k
+pub if_fits : (b : Bool) (v w : ℕ) → v < 2 ^ 32 → w < 2 ^ 32 → (if b then v else w) < 2 ^ 32
+if_fits true v w h k = h
+if_fits false v w h k = k
 
+module _ (s : State) (fits : IsState s) where
   place_fits : (p : Place) (ms : PlainInstr) → MovesHaveWords ms → new_word s (right_at plainly p ms) (s.place p) < 2 ^ 32
   place_fits p [] h = fits.places p
   place_fits p (SetTo r t ∷ ms) h = go (same_register p (InReg r)) (place_fits p ms h.1)

@@ -1,7 +1,7 @@
 -- Within a pass the instructions of a block, those that are done and those that are to come, do what the block did.
 use Rattle.std.proofs.Common.{◌≡◌, ℕ, zero, suc, ◌<◌, Bool, true, false, List, [], ◌∷◌, length, drop, refl, sym, ◌∙◌, ap, subst, arith}
 use Rattle.std.specs.Prelude.{◌||◌, ◌&&◌, not, if◌then◌else◌, is_some, Option, Some, None, ⊤}
-use Rattle.std.proofs.lemmas.Bool.{false≢true, true≢false, not-true, and_parts}
+use Rattle.std.proofs.lemmas.Bool.{false≢true, not-true, and_parts}
 use mathlib.Core.Logic.{inl, inr}
 use Rattle.po_term.specs.declared.term.Reg.{Reg as Register}
 use Rattle.po_term.specs.declared.term.Sym.{Sym}
@@ -22,6 +22,7 @@ use Rattle.po_model.specs.Pairs.{is_live_after, is_set_in}
 use Rattle.po_model.specs.Combined.{Gone, AsOne, combination}
 use Rattle.po_model.specs.Scanned.{Answer, Ahead, is_dead, pair_with, instrs_ahead, Tells}
 use Rattle.po_subst.proofs.Agreeing.{one_register}
+use Rattle.po_subst.proofs.Alike.{none_of}
 use Rattle.po_subst.proofs.Reading.{left_true}
 use Rattle.po_slow.specs.KeepsEffect.{SameEnd, SameEffect, effect_of_both, then_effect, KeepsEffect}
 use Rattle.po_slow.proofs.Sound.{answer_keeps}
@@ -211,11 +212,7 @@ within_dropped code b done x xs w h =
 
 still_ends : (x y : PlainInstr) (xs : List PlainInstr) → (is_some (end_of x) ≡ false → is_some (end_of y) ≡ false) → EndsLast (x ∷ xs) → EndsLast (y ∷ xs)
 still_ends x y [] h k = tt
-still_ends x y (z ∷ zs) h k = (same_ending y ∙ none (end_of y) (h (ap is_some (sym (same_ending x) ∙ k.0))), k.1)
-  where
-    none : {X : Type 0} (o : Option X) → is_some o ≡ false → o ≡ None
-    none None e = refl
-    none (Some z) e = absurd (true≢false e)
+still_ends x y (z ∷ zs) h k = (same_ending y ∙ none_of (end_of y) (h (ap is_some (sym (same_ending x) ∙ k.0))), k.1)
 
 module _ (m : Machine) (code : List PlainBlock) (b : ℕ) (d : PlainInstr) (done : List PlainInstr) (x : Ahead) (xs : List Ahead) (w : Within code b (d ∷ done) (x ∷ xs)) where
   abbrev rest : List PlainInstr
