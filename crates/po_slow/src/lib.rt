@@ -7,8 +7,12 @@ mod laws;
 #[cfg(test)]
 mod machine;
 mod pair;
+mod state;
 #[cfg(test)]
 mod tests;
+mod unit;
 
 pub use laws::combination_keeps_effect;
 pub use pair::slow_pair;
+pub use state::{Ask, ScanState, scan_step};
+pub use unit::slow_unit;
