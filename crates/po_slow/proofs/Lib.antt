@@ -20,3 +20,4 @@ pub mod RunsLeave
 pub mod RunsBlocks
 pub mod RunsStart
 pub mod RunsPasses
+pub mod Places

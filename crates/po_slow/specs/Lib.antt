@@ -1,3 +1,4 @@
 pub mod KeepsEffect
 pub mod Laws
 pub mod Passes
+pub mod States

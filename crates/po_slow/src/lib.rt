@@ -8,9 +8,13 @@ mod laws;
 mod machine;
 mod pair;
 mod run_laws;
+mod state;
 #[cfg(test)]
 mod tests;
+mod unit;
 
 pub use laws::combination_keeps_effect;
 pub use pair::slow_pair;
 pub use run_laws::passes_keep_runs;
+pub use state::{Ask, ScanState, scan_step};
+pub use unit::slow_unit;

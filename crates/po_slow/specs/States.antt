@@ -1,0 +1,91 @@
+-- Where the scan stands that a ScanState holds, and what every ScanState has.
+--
+-- A block is scanned in place: its first instructions are those that are done, its last ones those that are to come, and what lies
+-- between them is left over.
+use Rattle.std.specs.Prelude.{ℕ, suc, ◌≡◌, ◌≤◌, Bool, List, [], ◌∷◌, ◌++◌, map, reverse, take, drop, length, All, Option, Some, None, ⊤}
+use Rattle.po_term.specs.Form.{WellFormed}
+use Rattle.po_model.specs.declared.var.Var.{Var}
+use Rattle.po_model.specs.Blocks.{PlainInstr, PlainBlock, code_of, instrs_at, ending_of, EndsLast}
+use Rattle.po_model.specs.LiveSets.{holds_at, lives_at}
+use Rattle.po_model.specs.Pairs.{PlainPair, pair_of, WellFormedPair}
+use Rattle.po_model.specs.Combined.{Kept, Gone, AsOne}
+use Rattle.po_model.specs.Scanned.{Answer, Stand, InBlock, Scan, Within, Finished, instrs_ahead, blocks_ahead, ready, pair_ready}
+use Rattle.po_slow.specs.declared.state.Ask.{Ask}
+use Rattle.po_slow.specs.declared.state.Ask.TheVariants as ask
+use Rattle.po_slow.specs.declared.state.ScanState.{ScanState}
+use Rattle.po_slow.specs.Passes.{IsFormedCode}
+
+-- The place
+
+-- where the scan of a block stands whose first instructions are done and that goes on at the place `next`
+abbrev pub stand_at : List PlainInstr → (ℕ → Var → Bool) → ℕ → ℕ → Bool → Stand
+stand_at xs live done next changed = record { done = reverse (take done xs); rest = instrs_ahead live next (drop next xs); changed = changed }
+
+-- where the scan of a code stands in the first of these blocks, the b-th of the code; at the finish where there is none
+abbrev pub place_in : (ℕ → ℕ → Var → Bool) → ℕ → ℕ → ℕ → Bool → List PlainBlock → List PlainBlock → Scan
+place_in live b done next changed passed [] = Finished (reverse passed)
+place_in live b done next changed passed (x ∷ xs) = Within (record { label = x.label; stand = stand_at x.instrs (live b) done next changed; passed = passed; coming = blocks_ahead live (suc b) xs })
+
+-- where it stands in the b-th block
+abbrev pub place_at : List PlainBlock → (ℕ → ℕ → Var → Bool) → ℕ → ℕ → ℕ → Bool → Scan
+place_at code live b done next changed = place_in live b done next changed (reverse (take b code)) (drop b code)
+
+-- where the scan of a ScanState stands
+abbrev pub scan_of : ScanState → Scan
+scan_of s = place_at (code_of s.code) (λ b. holds_at (lives_at s.lives.after.items b)) s.block s.at.done s.at.next s.at.changed
+
+-- What is asked
+
+-- the scan is at the end of a block: it is within one, and no pair is ready
+abbrev pub IsAtEnd : Scan → Type 0
+IsAtEnd (Within s) = ready s.stand.done s.stand.rest ≡ None
+IsAtEnd (Finished code) = ⊥
+
+-- the scan is at its finish
+abbrev pub IsFinished : Scan → Type 0
+IsFinished (Within s) = ⊥
+IsFinished (Finished code) = ⊤
+
+-- what the scan asks for: the answer for the pair that is ready, the next block, or nothing any more
+abbrev pub Asks : Scan → Ask → Type 0
+Asks s (ask.Pair p) = (pair_ready s ≡ Some (pair_of p)) × WellFormedPair (pair_of p)
+Asks s ask.BlockEnd = IsAtEnd s
+Asks s ask.Finished = IsFinished s
+
+-- an answer may be given for the pair that is ready: one instruction is well formed, and has a control transfer only where B has one
+abbrev pub CanAnswer : Option PlainPair → Answer → Type 0
+CanAnswer None o = ⊥
+CanAnswer (Some p) Kept = ⊤
+CanAnswer (Some p) Gone = ⊤
+CanAnswer (Some p) (AsOne y) = WellFormed y × (ending_of p.b ≡ None → ending_of y ≡ None)
+
+-- What every ScanState has
+
+-- the instructions of a block that is scanned: those that are done, and those that are to come
+abbrev pub instrs_in : Stand → List PlainInstr
+instrs_in s = reverse s.done ++ map (λ x. x.instr) s.rest
+
+-- the instructions of a block are well formed, and a control transfer stands only in the last one
+pub record IsFormedList (xs : List PlainInstr) : Type 0 where
+  pub ends_last : EndsLast xs
+  pub formed : All WellFormed xs
+
+-- that in all blocks, of those to come as they were at the start of the pass; and the block's end is reached where nothing is done
+pub record IsFormedBlock (s : InBlock) : Type 0 where
+  pub here : IsFormedList (instrs_in s.stand)
+  pub passed : All (λ b. IsFormedList b.instrs) s.passed
+  pub coming : All (λ b. IsFormedList (map (λ x. x.instr) b.instrs)) s.coming
+  pub onward : s.stand.done ≡ [] → s.stand.rest ≡ []
+
+abbrev pub IsFormedScan : Scan → Type 0
+IsFormedScan (Within s) = IsFormedBlock s
+IsFormedScan (Finished code) = IsFormedCode code
+
+-- the scan stands within the code, and there is a live set for each instruction of the block and of those to come
+pub record IsFormedState (s : ScanState) : Type 0 where
+  pub blocks : s.block ≤ length (code_of s.code)
+  pub sets : length s.lives.after.items ≡ length (code_of s.code)
+  pub lives : (b : ℕ) → s.block ≤ b → length (lives_at s.lives.after.items b) ≡ length (instrs_at (code_of s.code) b)
+  pub done : s.at.done ≤ s.at.next
+  pub next : s.at.next ≤ length (instrs_at (code_of s.code) s.block)
+  pub scan : IsFormedScan (scan_of s)
