@@ -5,3 +5,5 @@ pub mod LivenessPairs
 pub mod LivenessFlow
 pub mod LivenessPass
 pub mod LivenessCode
+pub mod LivenessLast
+pub mod LivenessPasses

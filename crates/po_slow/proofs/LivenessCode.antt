@@ -174,7 +174,7 @@ module _ (m : Machine) (code next : List PlainBlock) (labels : map label_of next
       flows_where next (ReadBehind code)
       (λ b q v l f. live_on code b q v (leads_less next code labels b q (ending_less b) l) (live_where code q v (instrs_at code q) (no_more_at q v f)))
 
-  nothing_live : MakesNothingLive m code next
+  pub nothing_live : MakesNothingLive m code next
   nothing_live = record {
     live = λ b v l. live_where code b v (instrs_at code b) (no_more_at b v (flows_next b v (instrs_at next b) l));
     fits = λ f b i c l tells. go f b i c l tells;
@@ -190,7 +190,7 @@ module _ (m : Machine) (code next : List PlainBlock) (labels : map label_of next
   all_instrs [] b s = All-nil WellFormed
   all_instrs (x ∷ xs) b s = All-cons WellFormed x.instr (instrs_in xs) s.0.formed (all_instrs xs b s.1)
 
-  formed_next : IsFormedCode next
+  pub formed_next : IsFormedCode next
   formed_next = record {
     ends_last = all_blocks EndsLast next (λ b l. let d = done_below b l in rw d.same at (d.current.last));
     formed = all_blocks (λ xs. All WellFormed xs) next (λ b l. let d = done_below b l in rw d.same at (all_instrs d.whole b d.current.stay));

@@ -4,6 +4,7 @@
 #![tactic(auto)]
 
 mod laws;
+mod liveness_laws;
 #[cfg(test)]
 mod machine;
 mod pair;
@@ -11,4 +12,5 @@ mod pair;
 mod tests;
 
 pub use laws::combination_keeps_effect;
+pub use liveness_laws::{passes_keep_fit, passes_make_nothing_live};
 pub use pair::slow_pair;
