@@ -21,3 +21,5 @@ pub mod RunsBlocks
 pub mod RunsStart
 pub mod RunsPasses
 pub mod Places
+pub mod LivenessLast
+pub mod LivenessPasses

@@ -118,14 +118,13 @@ fits_less m false false x h i = i
 -- what stands at a place of a block, with what was told of it
 record ToldAt (m : Machine) (code : List PlainBlock) (b : ℕ) (xs : List PlainInstr) (i : ℕ) : Type 0 where
   live : Var → Bool
-  formed : WellFormed (instr_at i xs)
   told : (v : Var) → Flows (ReadBehind code b) (drop (suc i) xs) v → live v ≡ true
   fits : AllFit m code → IsSome (fit m (live Cc) (instr_at i xs))
 
 told_at : (m : Machine) (code : List PlainBlock) (b : ℕ) (xs : List Ahead) (i : ℕ) → AllStay m code b xs → i < length (instrs_in xs) → ToldAt m code b (instrs_in xs) i
 told_at m code b [] i s l = absurd (omega arith)
-told_at m code b (x ∷ xs) zero s l = record { live = x.live; formed = s.0.formed; told = s.0.told; fits = s.0.fits }
-told_at m code b (x ∷ xs) (suc i) s l = let t = told_at m code b xs i s.1 (omega arith) in record { live = t.live; formed = t.formed; told = t.told; fits = t.fits }
+told_at m code b (x ∷ xs) zero s l = record { live = x.live; told = s.0.told; fits = s.0.fits }
+told_at m code b (x ∷ xs) (suc i) s l = let t = told_at m code b xs i s.1 (omega arith) in record { live = t.live; told = t.told; fits = t.fits }
 
 -- from one code to the next nothing becomes live, and what fits goes on to fit
 pub record MakesNothingLive (m : Machine) (code next : List PlainBlock) : Type 0 where
@@ -169,15 +168,15 @@ module _ (m : Machine) (code next : List PlainBlock) (labels : map label_of next
       go (inr l) = rw (instrs_beyond next b (rw (as_many next code labels) l), instrs_beyond code b l) (no_further_self None)
 
   -- what is live in the next code, at any place of a block, flows back from what was read behind the block
-  flows_next : (b : ℕ) (v : Var) (xs : List PlainInstr) → IsLive next v (record { block = b; rest = xs }) → Flows (ReadBehind code b) xs v
+  pub flows_next : (b : ℕ) (v : Var) (xs : List PlainInstr) → IsLive next v (record { block = b; rest = xs }) → Flows (ReadBehind code b) xs v
   flows_next =
       flows_where next (ReadBehind code)
       (λ b q v l f. live_on code b q v (leads_less next code labels b q (ending_less b) l) (live_where code q v (instrs_at code q) (no_more_at q v f)))
 
-  nothing_live : MakesNothingLive m code next
+  pub nothing_live : MakesNothingLive m code next
   nothing_live = record {
     live = λ b v l. live_where code b v (instrs_at code b) (no_more_at b v (flows_next b v (instrs_at next b) l));
-    fits = λ f b i c l tells. go f b i c l tells;
+    fits = go;
   }
     where
       go : AllFit m code → AllFit m next
@@ -190,13 +189,13 @@ module _ (m : Machine) (code next : List PlainBlock) (labels : map label_of next
   all_instrs [] b s = All-nil WellFormed
   all_instrs (x ∷ xs) b s = All-cons WellFormed x.instr (instrs_in xs) s.0.formed (all_instrs xs b s.1)
 
-  formed_next : IsFormedCode next
+  pub formed_next : IsFormedCode next
   formed_next = record {
     ends_last = all_blocks EndsLast next (λ b l. let d = done_below b l in rw d.same at (d.current.last));
     formed = all_blocks (λ xs. All WellFormed xs) next (λ b l. let d = done_below b l in rw d.same at (all_instrs d.whole b d.current.stay));
   }
 
--- the steps of a scan, for `by_passes`
+-- the steps of a scan within a block make nothing live, so all passes make nothing live
 pub liveness_laws : (m : Machine) → IsMachine m → Laws m IsFormedCode (MakesNothingLive m) (λ code live b done rest. Standing m code b done rest)
 liveness_laws m allowed = record {
   joins = nothing_on m;

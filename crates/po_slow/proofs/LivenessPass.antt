@@ -34,6 +34,11 @@ use Rattle.po_slow.proofs.LivenessFlow.{Flows, NoMore, flows_past, no_more_befor
 abbrev pub instrs_in : List Ahead → List PlainInstr
 instrs_in xs = map (λ (x : Ahead). x.instr) xs
 
+-- the instructions of a code that are to come are those of the code
+pub ahead_instrs : (f : ℕ → Var → Bool) (i : ℕ) (xs : List PlainInstr) → instrs_in (instrs_ahead f i xs) ≡ xs
+ahead_instrs f i [] = refl
+ahead_instrs f i (x ∷ xs) = ap (λ ys. x ∷ ys) (ahead_instrs f (suc i) xs)
+
 -- Transfers of control in a block whose instructions change
 
 ends_before : (d x : PlainInstr) (xs ys : List PlainInstr) → EndsLast (d ∷ x ∷ xs) → EndsLast ys → NoFurther (block_ending ys) (block_ending (x ∷ xs)) → EndsLast (d ∷ ys) × NoFurther (block_ending (d ∷ ys)) (block_ending (d ∷ x ∷ xs))
@@ -219,10 +224,6 @@ module _ (m : Machine) (code : List PlainBlock) (b : ℕ) where
     formed : WellFormed (instr_at k xs)
     tells : (v : Var) → IsTrue (live v) ↔ IsLive code v (record { block = b; rest = drop (suc k) xs })
     fits : AllFit m code → IsSome (fit m (live Cc) (instr_at k xs))
-
-  ahead_instrs : (f : ℕ → Var → Bool) (i : ℕ) (xs : List PlainInstr) → instrs_in (instrs_ahead f i xs) ≡ xs
-  ahead_instrs f i [] = refl
-  ahead_instrs f i (x ∷ xs) = ap (λ ys. x ∷ ys) (ahead_instrs f (suc i) xs)
 
   all_ahead : (f : ℕ → Var → Bool) (i : ℕ) (xs : List PlainInstr) → ((k : ℕ) → k < length xs → AtStart xs (f (i + k)) k) → AllStay (instrs_ahead f i xs) × Exact (instrs_ahead f i xs)
   all_ahead f i [] h = (tt, tt)

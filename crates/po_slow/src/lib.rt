@@ -4,6 +4,7 @@
 #![tactic(auto)]
 
 mod laws;
+mod liveness_laws;
 #[cfg(test)]
 mod machine;
 mod pair;
@@ -14,6 +15,7 @@ mod tests;
 mod unit;
 
 pub use laws::combination_keeps_effect;
+pub use liveness_laws::{passes_keep_fit, passes_make_nothing_live};
 pub use pair::slow_pair;
 pub use run_laws::passes_keep_runs;
 pub use state::{Ask, ScanState, scan_step};
