@@ -15,6 +15,7 @@ pub mod LivenessPass
 pub mod LivenessCode
 pub mod RunsRead
 pub mod RunsReplace
+pub mod Dead
 pub mod RunsWithin
 pub mod RunsLeave
 pub mod RunsBlocks

@@ -1,19 +1,15 @@
 -- Within a pass the instructions of a block, those that are done and those that are to come, do what the block did.
 use Rattle.std.proofs.Common.{◌≡◌, ℕ, zero, suc, ◌<◌, Bool, true, false, List, [], ◌∷◌, length, drop, refl, sym, ◌∙◌, ap, subst, arith}
-use Rattle.std.specs.Prelude.{◌||◌, ◌&&◌, not, if◌then◌else◌, is_some, Option, Some, None, ⊤}
-use Rattle.std.proofs.lemmas.Bool.{false≢true, not-true, and_parts}
+use Rattle.std.specs.Prelude.{◌||◌, ◌&&◌, not, is_some, Option, Some, None, ⊤}
 use mathlib.Core.Logic.{inl, inr}
 use Rattle.po_term.specs.declared.term.Reg.{Reg as Register}
-use Rattle.po_term.specs.declared.term.Sym.{Sym}
 use Rattle.po_term.specs.Terms.{InReg, AtSym, State, IsState}
-use Rattle.po_term.specs.Moves.{SetTo, CcTo, StoreTo, Ends}
 use Rattle.po_term.specs.Form.{WellFormed}
-use Rattle.po_term.specs.Simplified.{reg_eq}
 use Rattle.po_model.specs.declared.machine.Machine.{Machine}
 use Rattle.po_model.specs.declared.var.Var.{Var}
 use Rattle.po_model.specs.declared.var.Var.TheVariants.{Reg, Cc}
 use Rattle.po_model.specs.Blocks.{PlainInstr, PlainBlock, instrs_at, EndsLast, ending_of}
-use Rattle.po_model.specs.Parts.{plainly, right_at, cc_of, store_of, ending_of as end_of}
+use Rattle.po_model.specs.Parts.{cc_of, ending_of as end_of}
 use Rattle.po_model.specs.Effect.{Done, new_word, new_memory, new_cc, after, effect}
 use Rattle.po_model.specs.Keeps.{matters}
 use Rattle.po_model.specs.LiveAfter.{sets, IsLive}
@@ -21,7 +17,6 @@ use Rattle.po_model.specs.Machines.{IsMachine}
 use Rattle.po_model.specs.Pairs.{is_live_after, is_set_in}
 use Rattle.po_model.specs.Combined.{Gone, AsOne, combination}
 use Rattle.po_model.specs.Scanned.{Answer, Ahead, is_dead, pair_with, instrs_ahead, Tells}
-use Rattle.po_subst.proofs.Agreeing.{one_register}
 use Rattle.po_subst.proofs.Alike.{none_of}
 use Rattle.po_subst.proofs.Reading.{left_true}
 use Rattle.po_slow.specs.KeepsEffect.{SameEnd, SameEffect, effect_of_both, then_effect, KeepsEffect}
@@ -31,47 +26,9 @@ use Rattle.po_slow.proofs.Blockwise.{instrs_in, ahead_instrs}
 use Rattle.po_slow.proofs.PairWith.{pair_formed, pair_tells}
 use Rattle.po_slow.proofs.LivenessEndings.{same_ending}
 use Rattle.po_slow.proofs.LivenessFlow.{dead_ending}
+use Rattle.po_slow.proofs.Dead.{dead_store, dead_cc, dead_right, symbol_unset}
 use Rattle.po_slow.proofs.RunsRead.{Variables, Passing, Agree, Alike, LeavesWords, instr_formed, alike_joins, alike_self, passing_in, after_fits, effect_fits}
 use Rattle.po_slow.proofs.RunsReplace.{doing, Back, AreFormed, AreCalm, Replaces, effect_next, doing_next, doing_fits, behind, goes_on_to, ends_rest, ends_split, ends_onto, formed_split, formed_onto, onto_replaces}
-
--- A dead instruction
-
--- a list of transfers that only sets what isn't live does nothing else
-module _ (live : Var → Bool) where
-  dead_store : (ms : PlainInstr) → is_dead live ms ≡ true → store_of ms ≡ None
-  dead_store [] h = refl
-  dead_store (SetTo r t ∷ ms) h = dead_store ms (and_parts (not (live (Reg r))) (is_dead live ms) h).1
-  dead_store (CcTo t u ∷ ms) h = dead_store ms (and_parts (not (live Cc)) (is_dead live ms) h).1
-  dead_store (StoreTo t u ∷ ms) h = absurd (false≢true h)
-  dead_store (Ends e ∷ ms) h = absurd (false≢true h)
-
-  dead_cc : (ms : PlainInstr) → is_dead live ms ≡ true → live Cc ≡ true → cc_of ms ≡ None
-  dead_cc [] h l = refl
-  dead_cc (SetTo r t ∷ ms) h l = dead_cc ms (and_parts (not (live (Reg r))) (is_dead live ms) h).1 l
-  dead_cc (CcTo t u ∷ ms) h l = absurd (false≢true (sym (not-true (live Cc) (and_parts (not (live Cc)) (is_dead live ms) h).0) ∙ l))
-  dead_cc (StoreTo t u ∷ ms) h l = absurd (false≢true h)
-  dead_cc (Ends e ∷ ms) h l = absurd (false≢true h)
-
-  dead_right : (q : Register) (ms : PlainInstr) → is_dead live ms ≡ true → live (Reg q) ≡ true → right_at plainly (InReg q) ms ≡ None
-  dead_right q [] h l = refl
-  dead_right q (SetTo r t ∷ ms) h l = go (reg_eq q r) refl (dead_right q ms (and_parts (not (live (Reg r))) (is_dead live ms) h).1 l)
-    where
-      dead : live (Reg r) ≡ false
-      dead = not-true (live (Reg r)) (and_parts (not (live (Reg r))) (is_dead live ms) h).0
-
-      go : (b : Bool) → reg_eq q r ≡ b → right_at plainly (InReg q) ms ≡ None → (if b then Some t else right_at plainly (InReg q) ms) ≡ None
-      go true e ih = absurd (false≢true (sym dead ∙ sym (ap (λ (x : Register). live (Reg x)) (one_register q r e)) ∙ l))
-      go false e ih = ih
-  dead_right q (CcTo t u ∷ ms) h l = dead_right q ms (and_parts (not (live Cc)) (is_dead live ms) h).1 l
-  dead_right q (StoreTo t u ∷ ms) h l = absurd (false≢true h)
-  dead_right q (Ends e ∷ ms) h l = absurd (false≢true h)
-
-symbol_unset : (y : Sym) (ms : PlainInstr) → right_at plainly (AtSym y) ms ≡ None
-symbol_unset y [] = refl
-symbol_unset y (SetTo r t ∷ ms) = symbol_unset y ms
-symbol_unset y (CcTo t u ∷ ms) = symbol_unset y ms
-symbol_unset y (StoreTo t u ∷ ms) = symbol_unset y ms
-symbol_unset y (Ends e ∷ ms) = symbol_unset y ms
 
 -- what is live is told so
 abbrev pub IsToldBy : Variables → (Var → Bool) → Type 0
