@@ -8,3 +8,4 @@ pub mod Forms
 pub mod Distinct
 pub mod Virtuals
 pub mod Straight
+pub mod KeptForm

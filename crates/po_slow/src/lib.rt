@@ -10,5 +10,5 @@ mod pair;
 #[cfg(test)]
 mod tests;
 
-pub use laws::combination_keeps_effect;
+pub use laws::{combination_keeps_effect, passes_keep_form};
 pub use pair::slow_pair;
