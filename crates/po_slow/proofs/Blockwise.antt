@@ -1,6 +1,7 @@
 -- Codes block by block: what holds of the instructions of each block, and of two codes with the same labels.
-use Rattle.std.proofs.Common.{◌≡◌, ℕ, zero, suc, ◌+◌, ◌<◌, ◌≤◌, List, [], ◌∷◌, ◌++◌, length, map, refl, sym, ◌∙◌, ap, arith, length-append}
+use Rattle.std.proofs.Common.{◌≡◌, ℕ, zero, suc, ◌+◌, ◌<◌, List, [], ◌∷◌, ◌++◌, length, map, refl, sym, ◌∙◌, ap, arith, length-append}
 use Rattle.std.specs.Prelude.{All, Option, Bool}
+use mathlib.Core.Logic.{◌⊎◌, inl, inr}
 use Rattle.std.proofs.lemmas.List.{length-map}
 use Rattle.std.proofs.lemmas.List.Elements.{All-nil, All-cons, All-head, All-tail}
 use Rattle.po_term.specs.declared.term.Label.{Label}
@@ -37,13 +38,29 @@ all_blocks Q (x ∷ xs) h = All-cons (λ (b : PlainBlock). Q b.instrs) x xs (h z
 pub same_length : (xs ys : List PlainBlock) → map label_of xs ≡ map label_of ys → length xs ≡ length ys
 same_length xs ys e = sym (length-map xs label_of) ∙ ap length e ∙ length-map ys label_of
 
--- of two codes with as many blocks, a fact of each block of both
-pub flat_fewer : (xs ys : List PlainBlock) → length xs ≡ length ys → ((b : ℕ) → b < length ys → length (instrs_at xs b) ≤ length (instrs_at ys b)) → length (flat xs) ≤ length (flat ys)
-flat_fewer [] ys e h = omega arith
-flat_fewer (x ∷ xs) [] e h = absurd (omega arith)
-flat_fewer (x ∷ xs) (y ∷ ys) e h =
-    let ih = flat_fewer xs ys (omega arith) (λ b lt. h (suc b) (omega arith)) in
-    let here = h zero (omega arith) in
-    let left : length (x.instrs ++ flat xs) ≡ length x.instrs + length (flat xs) = length-append x.instrs (flat xs) in
-    let right : length (y.instrs ++ flat ys) ≡ length y.instrs + length (flat ys) = length-append y.instrs (flat ys) in
-    omega (arith, ih, here, left, right)
+-- of two codes with the same labels, where each block is the same or has fewer instructions
+pub same_blocks : (xs ys : List PlainBlock) → map label_of xs ≡ map label_of ys
+    → ((b : ℕ) → b < length ys → (instrs_at xs b ≡ instrs_at ys b) ⊎ (length (instrs_at xs b) < length (instrs_at ys b)))
+    → (xs ≡ ys) ⊎ (length (flat xs) < length (flat ys))
+same_blocks [] [] e h = inl refl
+same_blocks [] (y ∷ ys) e h = absurd (cc)
+same_blocks (x ∷ xs) [] e h = absurd (cc)
+same_blocks (x ∷ xs) (y ∷ ys) e h =
+    let first : x.label ≡ y.label = (cc) in
+    let rest : map label_of xs ≡ map label_of ys = (cc) in
+    go first (h zero (omega arith)) (same_blocks xs ys rest (λ b lt. h (suc b) (omega arith)))
+  where
+    left : length (x.instrs ++ flat xs) ≡ length x.instrs + length (flat xs)
+    left = length-append x.instrs (flat xs)
+
+    right : length (y.instrs ++ flat ys) ≡ length y.instrs + length (flat ys)
+    right = length-append y.instrs (flat ys)
+
+    whole_block : x.label ≡ y.label → x.instrs ≡ y.instrs → x ≡ y
+    whole_block l i = ap (λ z. record { label = z; instrs = x.instrs }) l ∙ ap (λ z. record { label = y.label; instrs = z }) i
+
+    go : x.label ≡ y.label → (x.instrs ≡ y.instrs) ⊎ (length x.instrs < length y.instrs) → (xs ≡ ys) ⊎ (length (flat xs) < length (flat ys)) → (x ∷ xs ≡ y ∷ ys) ⊎ (length (x.instrs ++ flat xs) < length (y.instrs ++ flat ys))
+    go l (inl i) (inl t) = inl (ap (λ z. z ∷ xs) (whole_block l i) ∙ ap (λ z. y ∷ z) t)
+    go l (inl i) (inr t) = inr (let n = ap length i in omega (arith, left, right, n, t))
+    go l (inr i) (inl t) = inr (let n = ap (λ (c : List PlainBlock). length (flat c)) t in omega (arith, left, right, n, i))
+    go l (inr i) (inr t) = inr (omega (arith, left, right, i, t))

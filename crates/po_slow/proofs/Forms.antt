@@ -1,9 +1,10 @@
 -- Passes keep the form of a code: its instructions stay well formed, transfers of control last in their blocks, labels and symbols named;
--- the blocks keep their labels, and have no more instructions.
+-- the blocks keep their labels, and are as they were or have fewer instructions.
 use Rattle.std.proofs.Common.{◌≡◌, ℕ, zero, suc, ◌<◌, ◌≤◌, false, List, [], ◌∷◌, length, map, reverse, Option, Some, None, refl, sym, ◌∙◌, ap, subst, arith}
 use Rattle.std.specs.Prelude.{All, is_some}
 use Rattle.std.proofs.lemmas.Bool.{true≢false}
 use Rattle.std.proofs.lemmas.List.Elements.{All-nil, All-cons, All-head, All-tail}
+use mathlib.Core.Logic.{◌⊎◌, inl, inr}
 use Rattle.po_term.specs.declared.term.Sym.{Sym}
 use Rattle.po_term.specs.Terms.{Place}
 use Rattle.po_term.specs.Moves.{Ending, SetTo, CcTo, StoreTo, Ends}
@@ -23,7 +24,7 @@ use Rattle.po_slow.proofs.Passes.{Told, Laws, by_passes}
 use Rattle.po_slow.proofs.Onto.{onto, onto_reverse, length_onto, all_onto, all_replaced}
 use Rattle.po_slow.proofs.Named.{named_of_two}
 use Rattle.po_slow.proofs.PairWith.{pair_formed}
-use Rattle.po_slow.proofs.Blockwise.{label_of, instrs_in, whole, ahead_instrs, block_at, all_blocks, same_length, flat_fewer}
+use Rattle.po_slow.proofs.Blockwise.{label_of, instrs_in, whole, ahead_instrs, block_at, all_blocks, same_length, same_blocks}
 
 -- Where transfers of control stand
 
@@ -77,17 +78,26 @@ IsNamedInstr labels syms i = All (NamedMove labels syms) i
 pub record Stays (code : List PlainBlock) (b : ℕ) (xs : List PlainInstr) : Type 0 where
   pub ends : EndsLast xs
   pub formed : All WellFormed xs
-  pub fewer : length xs ≤ length (instrs_at code b)
+  pub same_or_fewer : (xs ≡ instrs_at code b) ⊎ (length xs < length (instrs_at code b))
   pub named : (labels syms : ℕ) → All (IsNamedInstr labels syms) (instrs_at code b) → All (IsNamedInstr labels syms) xs
+
+at_most : (xs ys : List PlainInstr) → (xs ≡ ys) ⊎ (length xs < length ys) → length xs ≤ length ys
+at_most xs ys (inl e) = let l = ap length e in omega (arith, l)
+at_most xs ys (inr h) = omega (arith, h)
 
 module _ (code : List PlainBlock) (b : ℕ) where
   -- other instructions behind those that are done
-  replaced : (ds : List PlainInstr) (x : PlainInstr) (xs ys : List PlainInstr) → (EndsLast (x ∷ xs) → EndsLast ys) → (All WellFormed (x ∷ xs) → All WellFormed ys) → length ys ≤ suc (length xs)
+  replaced : (ds : List PlainInstr) (x : PlainInstr) (xs ys : List PlainInstr) → (EndsLast (x ∷ xs) → EndsLast ys) → (All WellFormed (x ∷ xs) → All WellFormed ys) → length ys ≤ length xs
       → ((labels syms : ℕ) → All (IsNamedInstr labels syms) (x ∷ xs) → All (IsNamedInstr labels syms) ys) → Stays code b (onto ds (x ∷ xs)) → Stays code b (onto ds ys)
   replaced ds x xs ys ends formed less named h = record {
     ends = ends_replaced ds x xs ys ends h.ends;
     formed = all_replaced WellFormed ds (x ∷ xs) ys formed h.formed;
-    fewer = let before = h.fewer in let long = length_onto ds (x ∷ xs) in let short = length_onto ds ys in omega (arith, before, long, short, less);
+    same_or_fewer = inr (
+        let before = at_most (onto ds (x ∷ xs)) (instrs_at code b) h.same_or_fewer in
+        let long = length_onto ds (x ∷ xs) in
+        let short = length_onto ds ys in
+        omega (arith, before, long, short, less)
+        );
     named = λ labels syms n. all_replaced (IsNamedInstr labels syms) ds (x ∷ xs) ys (named labels syms) (h.named labels syms n);
   }
 
@@ -117,8 +127,14 @@ module _ (code : List PlainBlock) (b : ℕ) where
 -- what is kept of a code
 pub record Formed (code slowed : List PlainBlock) : Type 0 where
   pub labels : map label_of slowed ≡ map label_of code
-  pub fewer : length (flat slowed) ≤ length (flat code)
+  pub same_or_fewer : (slowed ≡ code) ⊎ (length (flat slowed) < length (flat code))
   pub named : (labels syms : ℕ) → All (IsNamedBlock labels syms) code → All (IsNamedBlock labels syms) slowed
+
+fewer_on : (a b c : List PlainBlock) → (b ≡ a) ⊎ (length (flat b) < length (flat a)) → (c ≡ b) ⊎ (length (flat c) < length (flat b)) → (c ≡ a) ⊎ (length (flat c) < length (flat a))
+fewer_on a b c (inl e) (inl f) = inl (f ∙ e)
+fewer_on a b c (inl e) (inr g) = inr (let l = ap (λ (c : List PlainBlock). length (flat c)) e in omega (arith, l, g))
+fewer_on a b c (inr h) (inl f) = inr (let l = ap (λ (c : List PlainBlock). length (flat c)) f in omega (arith, l, h))
+fewer_on a b c (inr h) (inr g) = inr (omega (arith, h, g))
 
 named_blocks : (labels syms : ℕ) (next code : List PlainBlock) → map label_of next ≡ map label_of code
     → ((b : ℕ) → b < length code → All (IsNamedInstr labels syms) (instrs_at code b) → All (IsNamedInstr labels syms) (instrs_at next b))
@@ -140,7 +156,7 @@ pub stays_at_start : (code : List PlainBlock) (live : Told) → IsFormedCode cod
 stays_at_start code live before b lt = subst (λ (xs : List PlainInstr). Stays code b xs) (sym (ahead_instrs (live b) 0 (instrs_at code b))) (record {
   ends = block_at EndsLast code b lt before.ends_last;
   formed = block_at (λ xs. All WellFormed xs) code b lt before.formed;
-  fewer = omega arith;
+  same_or_fewer = inl refl;
   named = λ labels syms n. n;
 })
 
@@ -149,7 +165,7 @@ kept_form code next e h =
     let long = same_length next code e in (
       record {
         labels = e;
-        fewer = flat_fewer next code long (λ b lt. (at b lt).fewer);
+        same_or_fewer = same_blocks next code e (λ b lt. (at b lt).same_or_fewer);
         named = λ labels syms n. named_blocks labels syms next code e (λ b lt. (at b lt).named labels syms) n;
       },
       record {
@@ -166,7 +182,7 @@ module _ (m : Machine) (allowed : IsMachine m) where
   form_laws = record {
     joins = λ a b c f g. record {
       labels = g.labels ∙ f.labels;
-      fewer = let first = f.fewer in let second = g.fewer in omega (arith, first, second);
+      same_or_fewer = fewer_on a b c f.same_or_fewer g.same_or_fewer;
       named = λ labels syms n. g.named labels syms (f.named labels syms n);
     };
     start = λ code live before tells b lt. stays_at_start code live before b lt;

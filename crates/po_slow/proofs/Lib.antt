@@ -24,3 +24,4 @@ pub mod RunsPasses
 pub mod Places
 pub mod LivenessLast
 pub mod LivenessPasses
+pub mod KeptForm

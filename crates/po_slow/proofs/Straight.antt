@@ -258,19 +258,19 @@ all_once next code e h f = go next code e h (λ b lt. (f b lt).once) (λ b lt. (
               (within_append (all_written x.instrs) (all_written (flat xs)) (all_written y.instrs) (all_written (flat ys)) here rest.within v (subst (λ (z : List ℕ). Contains z v) (written_both x xs) c));
         }
 
--- a code whose form is kept, and that is straight
+-- a formed code that is straight
 pub record StraightCode (code : List PlainBlock) : Type 0 where
   pub formed : IsFormedCode code
   pub straight : IsStraight code
 
--- where the scan of a block of it stands
-record Stands (code : List PlainBlock) (live : Told) (b : ℕ) (done : List PlainInstr) (rest : List Ahead) : Type 0 where
+-- what holds where the scan of a block of it stands
+record StraightAt (code : List PlainBlock) (live : Told) (b : ℕ) (done : List PlainInstr) (rest : List Ahead) : Type 0 where
   stays : Stays code b (whole done rest)
   once : Once code b (whole done rest)
   comes : Comes code live b rest
 
 module _ (m : Machine) (allowed : IsMachine m) where
-  start_once : (code : List PlainBlock) (live : Told) → StraightCode code → (b : ℕ) → b < length code → Stands code live b [] (instrs_ahead (live b) 0 (instrs_at code b))
+  start_once : (code : List PlainBlock) (live : Told) → StraightCode code → (b : ℕ) → b < length code → StraightAt code live b [] (instrs_ahead (live b) 0 (instrs_at code b))
   start_once code live before b lt = record {
     stays = stays_at_start code live before.formed b lt;
     once = subst (λ (xs : List PlainInstr). Once code b xs) (sym (ahead_instrs (live b) 0 (instrs_at code b))) (record {
@@ -281,7 +281,7 @@ module _ (m : Machine) (allowed : IsMachine m) where
     comes = comes_from code live b 0;
   }
 
-  kept_straight : (code : List PlainBlock) (live : Told) → StraightCode code → (next : List PlainBlock) → map label_of next ≡ map label_of code → ((b : ℕ) → b < length code → Stands code live b (reverse (instrs_at next b)) []) → StraightCode next
+  kept_straight : (code : List PlainBlock) (live : Told) → StraightCode code → (next : List PlainBlock) → map label_of next ≡ map label_of code → ((b : ℕ) → b < length code → StraightAt code live b (reverse (instrs_at next b)) []) → StraightCode next
   kept_straight code live before next e h =
       let long = same_length next code e in
       record {
@@ -298,7 +298,7 @@ module _ (m : Machine) (allowed : IsMachine m) where
   abbrev laws_of_form : Laws m IsFormedCode Formed StaysAt
   laws_of_form = form_laws m allowed
 
-  straight_laws : Laws m StraightCode (λ code next. ⊤) Stands
+  straight_laws : Laws m StraightCode (λ code next. ⊤) StraightAt
   straight_laws = record {
     joins = λ a b c f g. tt;
     start = λ code live before tells b lt. start_once code live before b lt;

@@ -147,10 +147,6 @@ pub written_onto : (ds xs : List PlainInstr) → all_written (onto ds xs) ≡ se
 written_onto [] xs = refl
 written_onto (d ∷ ds) xs = written_onto ds (d ∷ xs) ∙ sym (append_assoc (set_by ds) (written d) (all_written xs))
 
-pub behind_done : (ds xs : List PlainInstr) → ReadsBehind [] (onto ds xs) → ReadsBehind (set_by ds) xs
-behind_done [] xs h = h
-behind_done (d ∷ ds) xs h = (behind_done ds (d ∷ xs) h).1
-
 pub behind_replaced : (ds xs ys : List PlainInstr) → (ReadsBehind (set_by ds) xs → ReadsBehind (set_by ds) ys) → ReadsBehind [] (onto ds xs) → ReadsBehind [] (onto ds ys)
 behind_replaced [] xs ys f h = f h
 behind_replaced (d ∷ ds) xs ys f h = behind_replaced ds (d ∷ xs) (d ∷ ys) (λ k. (k.0, f k.1)) h

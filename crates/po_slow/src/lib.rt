@@ -4,19 +4,18 @@
 #![tactic(auto)]
 
 mod laws;
-mod liveness_laws;
 #[cfg(test)]
 mod machine;
 mod pair;
-mod run_laws;
 mod state;
 #[cfg(test)]
 mod tests;
 mod unit;
 
-pub use laws::combination_keeps_effect;
-pub use liveness_laws::{passes_keep_fit, passes_make_nothing_live};
+pub use laws::{
+    combination_keeps_effect, dead_leaves_no_trace, passes_keep_fit, passes_keep_form,
+    passes_keep_runs, passes_make_nothing_live,
+};
 pub use pair::slow_pair;
-pub use run_laws::passes_keep_runs;
 pub use state::{Ask, ScanState, scan_step};
 pub use unit::slow_unit;
