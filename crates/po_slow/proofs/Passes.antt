@@ -61,10 +61,10 @@ next_front [] y z ys = refl
 next_front (x ∷ xs) y z ys = ap (λ zs. x ∷ zs) (next_front xs y z ys)
 
 -- a scan stands before an instruction only where one is done
-abbrev Stops : Stand → Type 0
+abbrev pub Stops : Stand → Type 0
 Stops s = s.done ≡ [] → s.rest ≡ []
 
-onward_stops : (done : List PlainInstr) (rest : List Ahead) (changed : Bool) → Stops (onward done rest changed)
+pub onward_stops : (done : List PlainInstr) (rest : List Ahead) (changed : Bool) → Stops (onward done rest changed)
 onward_stops done [] changed = λ e. refl
 onward_stops [] (x ∷ xs) changed = go (is_dead x.live x.instr) (onward_stops [] xs true) (onward_stops (x.instr ∷ []) xs changed)
   where
@@ -77,7 +77,7 @@ onward_stops (d ∷ ds) (x ∷ xs) changed = go (is_dead x.live x.instr) (onward
     go true f = f
     go false f = λ e. absurd (cc)
 
-settled_stops : (o : Answer) (done : List PlainInstr) (rest : List Ahead) (changed : Bool) (p : PlainPair) → ready done rest ≡ Some p → Stops (settled o done rest changed)
+pub settled_stops : (o : Answer) (done : List PlainInstr) (rest : List Ahead) (changed : Bool) (p : PlainPair) → ready done rest ≡ Some p → Stops (settled o done rest changed)
 settled_stops o [] rest changed p e = absurd (cc)
 settled_stops o (d ∷ ds) [] changed p e = absurd (cc)
 settled_stops Kept (d ∷ ds) (x ∷ xs) changed p e = onward_stops (x.instr ∷ d ∷ ds) xs changed
@@ -85,7 +85,7 @@ settled_stops Gone (d ∷ ds) (x ∷ xs) changed p e = onward_stops ds xs true
 settled_stops (AsOne y) (d ∷ ds) (x ∷ xs) changed p e = onward_stops ds (record { instr = y; live = x.live } ∷ xs) true
 
 -- where no pair is ready, nothing is to come
-nothing_comes : (done : List PlainInstr) (rest : List Ahead) → ready done rest ≡ None → (done ≡ [] → rest ≡ []) → rest ≡ []
+pub nothing_comes : (done : List PlainInstr) (rest : List Ahead) → ready done rest ≡ None → (done ≡ [] → rest ≡ []) → rest ≡ []
 nothing_comes [] rest e h = h refl
 nothing_comes (d ∷ ds) [] e h = refl
 nothing_comes (d ∷ ds) (x ∷ xs) e h = absurd (cc)

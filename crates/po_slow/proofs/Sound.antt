@@ -41,7 +41,7 @@ abbrev Joining : Type 0
 Joining = Joint ℕ Place Register Sym
 
 -- what holds of the joint list holds of it where it is recognised
-in_place : (m : Machine) (cc_live : Bool) (Q : PlainInstr → Type 0) (x : Joining) → OfList x Q → InPlace (recognised words places m cc_live x).got Q
+pub in_place : (m : Machine) (cc_live : Bool) (Q : PlainInstr → Type 0) (x : Joining) → OfList x Q → InPlace (recognised words places m cc_live x).got Q
 in_place m cc_live Q NotJoined h = tt
 in_place m cc_live Q NothingLeft h = h
 in_place m cc_live Q (joint.AsOne j) h = go (fit m cc_live j)

@@ -1,6 +1,7 @@
 -- What is promised of all passes over a code: the code that they make has the form that the code had, makes nothing live, and runs as
 -- it does.
-use Rattle.std.specs.Prelude.{ℕ, ◌≤◌, ◌≡◌, List, map, length, All}
+use Rattle.std.specs.Prelude.{ℕ, ◌≤◌, ◌<◌, ◌≡◌, List, map, length, All}
+use mathlib.Core.Logic.{◌⊎◌}
 use Rattle.po_term.specs.Terms.{State}
 use Rattle.po_term.specs.Form.{WellFormed}
 use Rattle.po_model.specs.declared.machine.Machine.{Machine}
@@ -36,9 +37,11 @@ AfterPasses P = (m : Machine) (code slowed : List PlainBlock) (pairs : List Plai
 -- the form of the code that is made of a code
 pub record KeepsForm (m : Machine) (code slowed : List PlainBlock) : Type 0 where
   pub formed : IsFormedCode slowed
-  -- the same blocks by their labels, and no more instructions
+  -- the same blocks by their labels
   pub labels : map (λ b. b.label) slowed ≡ map (λ b. b.label) code
   pub fewer : length (flat slowed) ≤ length (flat code)
+  -- it is the code as it was, or has fewer instructions
+  pub same_or_fewer : (slowed ≡ code) ⊎ (length (flat slowed) < length (flat code))
   pub straight : IsStraight code → IsStraight slowed
   pub named : (labels syms : ℕ) → All (IsNamedBlock labels syms) code → All (IsNamedBlock labels syms) slowed
 

@@ -12,7 +12,10 @@ mod state;
 mod tests;
 mod unit;
 
-pub use laws::combination_keeps_effect;
+pub use laws::{
+    combination_keeps_effect, dead_leaves_no_trace, passes_keep_fit, passes_keep_form,
+    passes_keep_runs, passes_make_nothing_live,
+};
 pub use pair::slow_pair;
 pub use state::{Ask, ScanState, scan_step};
 pub use unit::slow_unit;
