@@ -7,3 +7,5 @@ pub mod Apart
 pub mod Formed
 pub mod Small
 pub mod Straight
+pub mod Boundary
+pub mod PlacedReads
