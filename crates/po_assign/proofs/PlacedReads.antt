@@ -1,8 +1,8 @@
 -- A placed instruction reads in its state what the instruction reads in the other, where they agree on what it reads.
-use Rattle.std.proofs.Common.{◌≡◌, ℕ, zero, suc, ◌+◌, ◌<◌, ◌≤◌, Bool, true, false, List, [], ◌∷◌, map, refl, sym, ◌∙◌, ap, subst, arith, eq-eqb}
-use Rattle.std.specs.Prelude.{◌==◌, ◌||◌, nat_lt, Option, Some, None}
+use Rattle.std.proofs.Common.{◌≡◌, ℕ, zero, suc, ◌+◌, ◌<◌, ◌≤◌, Bool, true, false, List, [], ◌∷◌, map, refl, sym, ◌∙◌, ap, subst, arith, eq-eqb, inl, inr}
+use Rattle.std.specs.Prelude.{◌==◌, ◌||◌, if◌then◌else◌, Contains, Option, Some, None, ⊤}
 use Rattle.std.specs.List.{list_any}
-use Rattle.std.proofs.lemmas.Bool.{lt-leb, le-leb}
+use Rattle.std.proofs.lemmas.Bool.{le-leb, ne_eqb, cases_eq}
 use Rattle.po_word.specs.Words.{un_value, bin_value, rel_value}
 use Rattle.po_term.specs.declared.term.Reg.{Reg as Register}
 use Rattle.po_term.specs.declared.term.Reg.TheVariants.{Virt, Fp, Rv, Arg}
@@ -14,10 +14,11 @@ use Rattle.po_term.specs.Simplified.{reg_eq}
 use Rattle.po_model.specs.declared.var.Var.{Var}
 use Rattle.po_model.specs.declared.var.Var.TheVariants.{Reg, Cc}
 use Rattle.po_model.specs.Blocks.{PlainInstr}
-use Rattle.po_model.specs.Parts.{cc_of, store_of, ending_of}
-use Rattle.po_model.specs.Effect.{Word, branch, by_cc, new_memory, new_cc, goes, arguments, Called, Returned}
+use Rattle.po_model.specs.Parts.{plainly, right_at, cc_of, store_of, ending_of}
+use Rattle.po_model.specs.Effect.{Word, branch, by_cc, new_word, new_memory, new_cc, goes, arguments, Called, Returned}
 use Rattle.po_model.specs.LiveAfter.{term_reads, move_reads, reads, is_reg, is_arg_of}
 use Rattle.po_model.specs.Placed.{place_of, placed_leaf, placed_instr}
+use Rattle.po_model.specs.UnitCodes.{written}
 use Rattle.po_assign.proofs.Boundary.{or_left, or_right}
 
 pub reg_same : (r : Register) → reg_eq r r ≡ true
@@ -29,6 +30,69 @@ reg_same (Arg n) = eq-eqb n n refl
 -- a term with each register replaced by its place
 abbrev pub placed_word : (ℕ → ℕ) → Word → Word
 placed_word at t = tree_map (λ c. c) (placed_leaf at) t
+
+-- no other one of these virtual registers has the place of r
+abbrev pub ApartFrom : (ℕ → ℕ) → Register → List ℕ → Type 0
+ApartFrom at (Virt v) ws = (w : ℕ) → Contains ws w → at v ≡ at w → v ≡ w
+ApartFrom at Fp ws = ⊤
+ApartFrom at Rv ws = ⊤
+ApartFrom at (Arg k) ws = ⊤
+
+-- two registers have one place only where they are one
+abbrev Separate : (ℕ → ℕ) → Register → Register → Type 0
+Separate at (Virt v) (Virt w) = at v ≡ at w → v ≡ w
+Separate at r q = ⊤
+
+apart_first : (at : ℕ → ℕ) (r q : Register) (u : Word) (ms : PlainInstr) → ApartFrom at r (written (SetTo q u ∷ ms)) → Separate at r q
+apart_first at (Virt v) (Virt w) u ms h = h w (0, omega arith, refl)
+apart_first at (Virt v) Fp u ms h = tt
+apart_first at (Virt v) Rv u ms h = tt
+apart_first at (Virt v) (Arg k) u ms h = tt
+apart_first at Fp q u ms h = tt
+apart_first at Rv q u ms h = tt
+apart_first at (Arg k) q u ms h = tt
+
+apart_later : (at : ℕ → ℕ) (r q : Register) (u : Word) (ms : PlainInstr) → ApartFrom at r (written (SetTo q u ∷ ms)) → ApartFrom at r (written ms)
+apart_later at (Virt v) (Virt w) u ms h = λ z c. h z (suc c.0, omega (arith, c.1), c.2)
+apart_later at (Virt v) Fp u ms h = h
+apart_later at (Virt v) Rv u ms h = h
+apart_later at (Virt v) (Arg k) u ms h = h
+apart_later at Fp q u ms h = tt
+apart_later at Rv q u ms h = tt
+apart_later at (Arg k) q u ms h = tt
+
+number_alike : (at : ℕ → ℕ) (v w : ℕ) → (at v ≡ at w → v ≡ w) → (at v == at w) ≡ (v == w)
+number_alike at v w h =
+    elim (cases_eq v w) [
+      | inl e ↦ rw (eq-eqb v w e) (eq-eqb (at v) (at w) (ap at e))
+      | inr n ↦ rw (ne_eqb v w n) (ne_eqb (at v) (at w) (λ e. n (h e)))
+    ]
+
+place_alike : (at : ℕ → ℕ) (r q : Register) → Separate at r q → reg_eq (place_of at r) (place_of at q) ≡ reg_eq r q
+place_alike at (Virt v) (Virt w) h = number_alike at v w h
+place_alike at (Virt v) Fp h = refl
+place_alike at (Virt v) Rv h = refl
+place_alike at (Virt v) (Arg k) h = refl
+place_alike at Fp (Virt w) h = refl
+place_alike at Fp Fp h = refl
+place_alike at Fp Rv h = refl
+place_alike at Fp (Arg k) h = refl
+place_alike at Rv (Virt w) h = refl
+place_alike at Rv Fp h = refl
+place_alike at Rv Rv h = refl
+place_alike at Rv (Arg k) h = refl
+place_alike at (Arg j) (Virt w) h = refl
+place_alike at (Arg j) Fp h = refl
+place_alike at (Arg j) Rv h = refl
+place_alike at (Arg j) (Arg k) h = refl
+
+-- no instruction sets a symbol's address
+pub symbol_stays : (y : Sym) (x : PlainInstr) → right_at plainly (AtSym y) x ≡ None
+symbol_stays y [] = refl
+symbol_stays y (SetTo r u ∷ ms) = symbol_stays y ms
+symbol_stays y (CcTo u w ∷ ms) = symbol_stays y ms
+symbol_stays y (StoreTo u w ∷ ms) = symbol_stays y ms
+symbol_stays y (Ends e ∷ ms) = symbol_stays y ms
 
 -- a state of the code, and one of the placed code
 module _ (at : ℕ → ℕ) (s t : State) where
@@ -102,3 +166,20 @@ module _ (at : ℕ → ℕ) (s t : State) where
     goes_placed (CcTo u w ∷ ms) h = goes_placed ms (later_reads (CcTo u w) ms h)
     goes_placed (StoreTo u w ∷ ms) h = goes_placed ms (later_reads (StoreTo u w) ms h)
     goes_placed (Ends e ∷ ms) h = ending_placed e ms (first_reads (Ends e) ms h)
+
+    -- a register is set alike, where no other one that is set has its place, or is as it was
+    pub word_placed : (r : Register) (x : PlainInstr) (a b : ℕ) → HoldsWhere (reads x) → ApartFrom at r (written x) → (right_at plainly (InReg r) x ≡ None → a ≡ b)
+        → new_word s (right_at plainly (InReg r) x) a ≡ new_word t (right_at plainly (InReg (place_of at r)) (placed_instr at x)) b
+    word_placed r [] a b h apart k = k refl
+    word_placed r (SetTo q u ∷ ms) a b h apart k =
+        let others = word_placed r ms a b (later_reads (SetTo q u) ms h) (apart_later at r q u ms apart) in
+        rw (place_alike at r q (apart_first at r q u ms apart)) (go (reg_eq r q) k others)
+      where
+        go : (c : Bool) → ((if c then Some u else right_at plainly (InReg r) ms) ≡ None → a ≡ b)
+            → ((right_at plainly (InReg r) ms ≡ None → a ≡ b) → new_word s (right_at plainly (InReg r) ms) a ≡ new_word t (right_at plainly (InReg (place_of at r)) (placed_instr at ms)) b)
+            → new_word s (if c then Some u else right_at plainly (InReg r) ms) a ≡ new_word t (if c then Some (placed_word at u) else right_at plainly (InReg (place_of at r)) (placed_instr at ms)) b
+        go true k others = value_placed u (first_reads (SetTo q u) ms h)
+        go false k others = others k
+    word_placed r (CcTo u w ∷ ms) a b h apart k = word_placed r ms a b (later_reads (CcTo u w) ms h) apart k
+    word_placed r (StoreTo u w ∷ ms) a b h apart k = word_placed r ms a b (later_reads (StoreTo u w) ms h) apart k
+    word_placed r (Ends e ∷ ms) a b h apart k = word_placed r ms a b (later_reads (Ends e) ms h) apart k
