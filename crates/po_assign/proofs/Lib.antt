@@ -9,3 +9,5 @@ pub mod Small
 pub mod Straight
 pub mod Boundary
 pub mod PlacedReads
+pub mod Controls
+pub mod PlacedSteps

@@ -1,0 +1,80 @@
+-- The placed instructions of a block do what its instructions do, as far as it is live behind them.
+use Rattle.std.proofs.Common.{◌≡◌, ℕ, zero, suc, Bool, true, false, List, [], ◌∷◌, ◌++◌, map, refl, sym, ◌∙◌, ap, subst, inl, inr}
+use Rattle.std.specs.Prelude.{if◌then◌else◌, Contains, All, Option, Some, None, ⊤}
+use Rattle.std.specs.Option.{option_map}
+use Rattle.po_term.specs.declared.term.Reg.{Reg as Register}
+use Rattle.po_term.specs.declared.term.Reg.TheVariants.{Virt, Fp, Rv, Arg}
+use Rattle.po_term.specs.declared.term.Sym.{Sym}
+use Rattle.po_term.specs.Terms.{Place, InReg, AtSym, State}
+use Rattle.po_term.specs.Moves.{Ending}
+use Rattle.po_model.specs.declared.machine.Machine.{Machine}
+use Rattle.po_model.specs.declared.var.Var.{Var}
+use Rattle.po_model.specs.declared.var.Var.TheVariants.{Reg, Cc}
+use Rattle.po_model.specs.Blocks.{PlainInstr, PlainBlock, ending_of as control_of, block_ending, EndsLast}
+use Rattle.po_model.specs.Parts.{plainly, right_at, cc_of, ending_of}
+use Rattle.po_model.specs.Effect.{Control, Next, Done, new_word, new_cc, after, goes, effect}
+use Rattle.po_model.specs.Fit.{fit}
+use Rattle.po_model.specs.LiveAfter.{Point, reads, sets, IsLive}
+use Rattle.po_model.specs.Run.{and_on, in_turn}
+use Rattle.po_model.specs.Placed.{place_of, placed_instr, unless_clobbered, effect_on, found_clobbers, placed_from}
+use Rattle.po_model.specs.UnitCodes.{written, ReadsBehind}
+use Rattle.po_assign.proofs.Boundary.{any_reads, AreBehind, live_held}
+use Rattle.po_assign.proofs.PlacedReads.{Holds, HoldsWhere, ApartFrom, symbol_stays, memory_placed, cc_placed, goes_placed, word_placed}
+use Rattle.po_assign.proofs.Controls.{passes, EndsOnce, ends_once, register_unset, cc_unset, Comes, comes_of}
+
+module _ (m : Machine) (at : ℕ → ℕ) (code : List PlainBlock) where
+  -- a state of the code and one of the placed code agree behind a transfer of control: on what it leaves as it is, as far as it is live
+  pub record Agree (c : Control) (b : ℕ) (rest : List PlainInstr) (s t : State) : Type 0 where
+    pub memory : (a : ℕ) → s.memory a ≡ t.memory a
+    pub symbols : (y : Sym) → s.place (AtSym y) ≡ t.place (AtSym y)
+    pub live : (v : Var) → passes c v ≡ true → IsLive code v (record { block = b; rest = rest }) → Holds at s t v
+
+  -- no instruction of a block writes to the place of a register that was written and is still to be read, but that register
+  abbrev pub AreApart : List ℕ → List PlainInstr → Type 0
+  AreApart set [] = ⊤
+  AreApart set (x ∷ xs) = ((v : ℕ) → Contains (set ++ written x) v → any_reads xs v ≡ true → ApartFrom at (Virt v) (written x)) × AreApart (set ++ written x) xs
+
+  -- no entry of an instruction of a block empties a cc that is live behind it
+  abbrev pub KeepCc : ℕ → (ℕ → Bool) → ℕ → List PlainInstr → Type 0
+  KeepCc b live i [] = ⊤
+  KeepCc b live i (x ∷ xs) = (IsLive code Cc (record { block = b; rest = xs }) → found_clobbers m (fit m (live i) x) ≡ false) × KeepCc b live (suc i) xs
+
+  -- live behind an instruction that doesn't set it: live before it
+  live_unset : (v : Var) (b : ℕ) (x : PlainInstr) (xs : List PlainInstr) → sets x v ≡ false → IsLive code v (record { block = b; rest = xs }) → IsLive code v (record { block = b; rest = x ∷ xs })
+  live_unset v b x xs e (inl f) = inl f
+  live_unset v b x xs e (inr r) = inr (record { block = b; rest = xs } ∷ r.0, (e, (refl, refl), r.1))
+
+  cc_kept : (clobbers : Bool) (o p : Option (ℕ × ℕ)) → clobbers ≡ false → o ≡ p → o ≡ (if clobbers then None else p)
+  cc_kept clobbers o p e f = rw e f
+
+  -- one instruction, of which control went to c
+  module _ (b : ℕ) (x : PlainInstr) (xs : List PlainInstr) (once : EndsOnce x) (clobbers : Bool) (s t : State) (c : Control) (to : goes s (ending_of x) ≡ Some c)
+      (apart : (r : Register) → IsLive code (Reg r) (record { block = b; rest = xs }) → ApartFrom at r (written x))
+      (keeps : IsLive code Cc (record { block = b; rest = xs }) → clobbers ≡ false) (a : Agree Next b (x ∷ xs) s t) where
+    all_read : HoldsWhere at s t (reads x)
+    all_read v e = a.live v refl (inr ([], e))
+
+    holds_after : (v : Var) → passes c v ≡ true → IsLive code v (record { block = b; rest = xs }) → Holds at (after s x) (unless_clobbered clobbers (after t (placed_instr at x))) v
+    holds_after (Reg r) p l =
+        word_placed at s t a.memory a.symbols r x (s.place (InReg r)) (t.place (InReg (place_of at r))) all_read (apart r l)
+        (λ n. a.live (Reg r) refl (live_unset (Reg r) b x xs (register_unset s c r x once to p n) l))
+    holds_after Cc p l =
+        cc_kept clobbers (new_cc s (cc_of x)) (new_cc t (cc_of (placed_instr at x))) (keeps l)
+        (cc_placed at s t a.memory a.symbols x all_read (λ n. a.live Cc refl (live_unset Cc b x xs (cc_unset s c x once to p n) l)))
+
+    symbol_after : (y : Sym) → (after s x).place (AtSym y) ≡ (after t (placed_instr at x)).place (AtSym y)
+    symbol_after y = rw (symbol_stays y x, symbol_stays y (placed_instr at x)) (a.symbols y)
+
+    agree_after : Agree c b xs (after s x) (unless_clobbered clobbers (after t (placed_instr at x)))
+    agree_after = record {
+      memory = memory_placed at s t a.memory a.symbols x all_read;
+      symbols = symbol_after;
+      live = holds_after;
+    }
+
+  -- neither has an effect, or both have one: control goes to one place, from a block with this ending, and the states agree behind it
+  abbrev pub Ended : ℕ → Option (Ending ℕ Place Sym) → Option Done → Option Done → Type 0
+  Ended b e None None = ⊤
+  Ended b e None (Some f) = ⊥
+  Ended b e (Some d) None = ⊥
+  Ended b e (Some d) (Some f) = (d.to ≡ f.to) × Comes code e d.to × Agree d.to b [] d.state f.state
