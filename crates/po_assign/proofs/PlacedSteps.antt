@@ -1,21 +1,22 @@
 -- The placed instructions of a block do what its instructions do, as far as it is live behind them.
-use Rattle.std.proofs.Common.{◌≡◌, ℕ, zero, suc, Bool, true, false, List, [], ◌∷◌, ◌++◌, map, refl, sym, ◌∙◌, ap, subst, inl, inr}
+use Rattle.std.proofs.Common.{◌≡◌, ℕ, zero, suc, Bool, true, false, List, [], ◌∷◌, ◌++◌, map, arith, refl, sym, ◌∙◌, ap, subst, inl, inr}
 use Rattle.std.specs.Prelude.{if◌then◌else◌, Contains, All, Option, Some, None, ⊤}
 use Rattle.std.specs.Option.{option_map}
 use Rattle.po_term.specs.declared.term.Reg.{Reg as Register}
 use Rattle.po_term.specs.declared.term.Reg.TheVariants.{Virt, Fp, Rv, Arg}
 use Rattle.po_term.specs.declared.term.Sym.{Sym}
 use Rattle.po_term.specs.Terms.{Place, InReg, AtSym, State}
-use Rattle.po_term.specs.Moves.{Ending}
+use Rattle.po_term.specs.Moves.{Ending, SetTo, CcTo, StoreTo, Ends}
+use Rattle.po_term.specs.Form.{WellFormed}
 use Rattle.po_model.specs.declared.machine.Machine.{Machine}
 use Rattle.po_model.specs.declared.var.Var.{Var}
 use Rattle.po_model.specs.declared.var.Var.TheVariants.{Reg, Cc}
 use Rattle.po_model.specs.Blocks.{PlainInstr, PlainBlock, ending_of as control_of, block_ending, EndsLast}
 use Rattle.po_model.specs.Parts.{plainly, right_at, cc_of, ending_of}
-use Rattle.po_model.specs.Effect.{Control, Next, Done, new_word, new_cc, after, goes, effect}
+use Rattle.po_model.specs.Effect.{Control, Next, Jump, Called, Returned, Done, new_word, new_cc, after, goes, effect}
 use Rattle.po_model.specs.Fit.{fit}
 use Rattle.po_model.specs.LiveAfter.{Point, reads, sets, IsLive}
-use Rattle.po_model.specs.Run.{and_on, in_turn}
+use Rattle.po_model.specs.Run.{Doing, and_on, in_turn}
 use Rattle.po_model.specs.Placed.{place_of, placed_instr, unless_clobbered, effect_on, found_clobbers, placed_from}
 use Rattle.po_model.specs.UnitCodes.{written, ReadsBehind}
 use Rattle.po_assign.proofs.Boundary.{any_reads, AreBehind, live_held}
@@ -78,3 +79,72 @@ module _ (m : Machine) (at : ℕ → ℕ) (code : List PlainBlock) where
   Ended b e None (Some f) = ⊥
   Ended b e (Some d) None = ⊥
   Ended b e (Some d) (Some f) = (d.to ≡ f.to) × Comes code e d.to × Agree d.to b [] d.state f.state
+
+  module _ (b : ℕ) (e : Option (Ending ℕ Place Sym)) (s' t' : State) (clobbers : Bool) where
+    -- what comes of an instruction, by where its control goes
+    abbrev done_first : Option Control → Option Done
+    done_first o = option_map (λ c. record { state = s'; to = c }) o
+
+    abbrev done_placed : Option Control → Option Done
+    done_placed p = option_map (λ (d : Done). record { state = unless_clobbered clobbers d.state; to = d.to }) (option_map (λ c. record { state = t'; to = c }) p)
+
+    -- where both go on to the next instruction
+    on_next : (o p : Option Control) (go go' : Doing) → o ≡ Some Next → p ≡ Some Next → Ended b e (go s') (go' (unless_clobbered clobbers t')) → Ended b e (and_on go (done_first o)) (and_on go' (done_placed p))
+    on_next o p go go' i j h = rw (i, j) h
+
+    -- the last instruction
+    last_to : (c : Control) → Comes code e c → Agree c b [] s' (unless_clobbered clobbers t') → Ended b e (and_on (in_turn []) (done_first (Some c))) (and_on (in_turn []) (done_placed (Some c)))
+    last_to Next k a = (refl, k, a)
+    last_to (Jump l) k a = (refl, k, a)
+    last_to (Called f ws) k a = (refl, k, a)
+    last_to (Returned w) k a = (refl, k, a)
+
+    last_ended : (o p : Option Control) → o ≡ p → ((c : Control) → o ≡ Some c → Comes code e c × Agree c b [] s' (unless_clobbered clobbers t')) → Ended b e (and_on (in_turn []) (done_first o)) (and_on (in_turn []) (done_placed p))
+    last_ended None None i h = tt
+    last_ended None (Some d) i h = absurd (cc)
+    last_ended (Some c) None i h = absurd (cc)
+    last_ended (Some c) (Some d) i h =
+        let same : c ≡ d = (cc) in
+        let both = h c refl in
+        subst (λ d. Ended b e (and_on (in_turn []) (done_first (Some c))) (and_on (in_turn []) (done_placed (Some d)))) same (last_to c both.0 both.1)
+
+  controls_same : (x : PlainInstr) → control_of x ≡ ending_of x
+  controls_same [] = refl
+  controls_same (SetTo r t ∷ ms) = controls_same ms
+  controls_same (CcTo t u ∷ ms) = controls_same ms
+  controls_same (StoreTo t u ∷ ms) = controls_same ms
+  controls_same (Ends e ∷ ms) = refl
+
+  goes_next : (s : State) (x : PlainInstr) → control_of x ≡ None → goes s (ending_of x) ≡ Some Next
+  goes_next s x e = ap (λ o. goes s o) (sym (controls_same x) ∙ e)
+
+  -- what is live behind an instruction has a place of its own
+  live_apart : AreBehind code → (b : ℕ) (set : List ℕ) (x : PlainInstr) (xs : List PlainInstr) → ReadsBehind (set ++ written x) xs
+      → ((v : ℕ) → Contains (set ++ written x) v → any_reads xs v ≡ true → ApartFrom at (Virt v) (written x))
+      → (r : Register) → IsLive code (Reg r) (record { block = b; rest = xs }) → ApartFrom at r (written x)
+  live_apart behind b set x xs h apart (Virt v) l = let held = live_held code behind v b (set ++ written x) xs h l in apart v held.0 held.1
+  live_apart behind b set x xs h apart Fp l = tt
+  live_apart behind b set x xs h apart Rv l = tt
+  live_apart behind b set x xs h apart (Arg k) l = tt
+
+  pub block_ended : AreBehind code → (b : ℕ) (live : ℕ → Bool) (xs : List PlainInstr) (i : ℕ) (set : List ℕ) (s t : State)
+      → EndsLast xs → All WellFormed xs → ReadsBehind set xs → AreApart set xs → KeepCc b live i xs → Agree Next b xs s t
+      → Ended b (block_ending xs) (in_turn (map effect xs) s) (in_turn (placed_from m at live i xs) t)
+  block_ended behind b live [] i set s t last formed reading apart keeps a = (refl, refl, a)
+  block_ended behind b live (x ∷ []) i set s t last formed reading apart keeps a =
+      let clobbers = found_clobbers m (fit m (live i) x) in
+      let once = ends_once x (formed 0 x (omega arith)).pairs in
+      last_ended b (control_of x) (after s x) (after t (placed_instr at x)) clobbers (goes s (ending_of x)) (goes t (ending_of (placed_instr at x)))
+      (goes_placed at s t a.memory a.symbols x (λ v e. a.live v refl (inr ([], e))))
+      (λ c to. (subst (λ e. Comes code e c) (sym (controls_same x)) (comes_of code s (ending_of x) c to),
+      agree_after b x [] once clobbers s t c to (live_apart behind b set x [] reading.1 apart.0) keeps.0 a))
+  block_ended behind b live (x ∷ y ∷ ys) i set s t last formed reading apart keeps a =
+      let clobbers = found_clobbers m (fit m (live i) x) in
+      let once = ends_once x (formed 0 x (omega arith)).pairs in
+      let to : goes s (ending_of x) ≡ Some Next = goes_next s x last.0 in
+      let same : goes s (ending_of x) ≡ goes t (ending_of (placed_instr at x)) = goes_placed at s t a.memory a.symbols x (λ v e. a.live v refl (inr ([], e))) in
+      on_next b (block_ending (y ∷ ys)) (after s x) (after t (placed_instr at x)) clobbers (goes s (ending_of x)) (goes t (ending_of (placed_instr at x)))
+      (in_turn (map effect (y ∷ ys))) (in_turn (placed_from m at live (suc i) (y ∷ ys))) to (sym same ∙ to)
+      (block_ended behind b live (y ∷ ys) (suc i) (set ++ written x) (after s x) (unless_clobbered clobbers (after t (placed_instr at x)))
+      last.1 (λ k d l. formed (suc k) d (omega arith)) reading.1 apart.1 keeps.1
+      (agree_after b x (y ∷ ys) once clobbers s t Next to (live_apart behind b set x (y ∷ ys) reading.1 apart.0) keeps.0 a))
