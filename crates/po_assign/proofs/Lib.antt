@@ -11,3 +11,4 @@ pub mod Boundary
 pub mod PlacedReads
 pub mod Controls
 pub mod PlacedSteps
+pub mod PlacedLeaving
