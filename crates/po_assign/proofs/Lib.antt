@@ -12,3 +12,4 @@ pub mod PlacedReads
 pub mod Controls
 pub mod PlacedSteps
 pub mod PlacedLeaving
+pub mod Clobbered
