@@ -13,3 +13,4 @@ pub mod Controls
 pub mod PlacedSteps
 pub mod PlacedLeaving
 pub mod Clobbered
+pub mod MachineRegisters
