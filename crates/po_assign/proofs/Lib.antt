@@ -14,3 +14,5 @@ pub mod PlacedSteps
 pub mod PlacedLeaving
 pub mod Clobbered
 pub mod MachineRegisters
+pub mod PlacedBlocks
+pub mod PlacedRuns

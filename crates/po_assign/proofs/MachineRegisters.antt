@@ -67,7 +67,7 @@ read_behind_these v last p [] after r = omega (arith, read_last v last p after r
 read_behind_these v last p (x ∷ xs) after r = omega (arith, read_behind_these v (if reads x (Reg (Virt v)) then 2 * p else last) (suc p) xs after r)
 
 -- a register that these instructions write, and later ones read
-held_interval : (p : ℕ) (before after : List PlainInstr) (v point : ℕ) → Contains (all_written before) v → any_reads after v ≡ true → point + 1 ≡ 2 * (p + length before)
+pub held_interval : (p : ℕ) (before after : List PlainInstr) (v point : ℕ) → Contains (all_written before) v → any_reads after v ≡ true → point + 1 ≡ 2 * (p + length before)
     → HasInterval (intervals_from p (before ++ after)) v point
 held_interval p [] after v point c r e = absurd (omega (arith, c.1))
 held_interval p (x ∷ xs) after v point c r e =
@@ -82,7 +82,7 @@ held_interval p (x ∷ xs) after v point c r e =
     ]
 
 -- a register that an instruction writes
-written_interval : (p : ℕ) (before : List PlainInstr) (x : PlainInstr) (after : List PlainInstr) (w point : ℕ) → Contains (written x) w → point ≡ 2 * (p + length before) + 1
+pub written_interval : (p : ℕ) (before : List PlainInstr) (x : PlainInstr) (after : List PlainInstr) (w point : ℕ) → Contains (written x) w → point ≡ 2 * (p + length before) + 1
     → HasInterval (intervals_from p (before ++ x ∷ after)) w point
 written_interval p [] x after w point c e =
     let i = interval_of p after w in

@@ -31,9 +31,9 @@ module _ (m : Machine) (at : ℕ → ℕ) (code : List PlainBlock) where
     pub live : (v : Var) → passes c v ≡ true → IsLive code v (record { block = b; rest = rest }) → Holds at s t v
 
   -- no instruction of a block writes to the place of a register that was written and is still to be read, but that register
-  abbrev pub AreApart : List ℕ → List PlainInstr → Type 0
-  AreApart set [] = ⊤
-  AreApart set (x ∷ xs) = ((v : ℕ) → Contains (set ++ written x) v → any_reads xs v ≡ true → ApartFrom at (Virt v) (written x)) × AreApart (set ++ written x) xs
+  abbrev pub PlacesApart : List ℕ → List PlainInstr → Type 0
+  PlacesApart set [] = ⊤
+  PlacesApart set (x ∷ xs) = ((v : ℕ) → Contains (set ++ written x) v → any_reads xs v ≡ true → ApartFrom at (Virt v) (written x)) × PlacesApart (set ++ written x) xs
 
   -- no entry of an instruction of a block empties a cc that is live behind it
   abbrev pub KeepCc : ℕ → (ℕ → Bool) → ℕ → List PlainInstr → Type 0
@@ -128,7 +128,7 @@ module _ (m : Machine) (at : ℕ → ℕ) (code : List PlainBlock) where
   live_apart behind b set x xs h apart (Arg k) l = tt
 
   pub block_ended : AreBehind code → (b : ℕ) (live : ℕ → Bool) (xs : List PlainInstr) (i : ℕ) (set : List ℕ) (s t : State)
-      → EndsLast xs → All WellFormed xs → ReadsBehind set xs → AreApart set xs → KeepCc b live i xs → Agree Next b xs s t
+      → EndsLast xs → All WellFormed xs → ReadsBehind set xs → PlacesApart set xs → KeepCc b live i xs → Agree Next b xs s t
       → Ended b (block_ending xs) (in_turn (map effect xs) s) (in_turn (placed_from m at live i xs) t)
   block_ended behind b live [] i set s t last formed reading apart keeps a = (refl, refl, a)
   block_ended behind b live (x ∷ []) i set s t last formed reading apart keeps a =
