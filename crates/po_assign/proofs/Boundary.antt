@@ -1,16 +1,14 @@
 -- In straight code a virtual register is live only behind the instruction that sets it, in its own block: none is live at a block's start.
-use Rattle.std.proofs.Common.{◌≡◌, ℕ, zero, suc, Bool, true, false, List, [], ◌∷◌, ◌++◌, refl, sym, ◌∙◌, ap, subst, arith, eq-eqb, ◌⊎◌, inl, inr}
-use Rattle.std.specs.Prelude.{◌==◌, ◌||◌, Contains, All, ⊤}
+use Rattle.std.proofs.Common.{◌≡◌, ℕ, zero, suc, Bool, true, false, List, [], ◌∷◌, ◌++◌, refl, sym, ◌∙◌, subst, arith, eq-eqb, inl, inr}
+use Rattle.std.specs.Prelude.{◌==◌, ◌||◌, Contains}
 use Rattle.std.specs.List.{list_any}
 use Rattle.std.proofs.lemmas.Bool.{false≢true, true≢false}
 use Rattle.std.proofs.lemmas.List.Elements.{Contains-append_cases}
-use Rattle.po_term.specs.declared.term.Reg.{Reg as Register}
 use Rattle.po_term.specs.declared.term.Reg.TheVariants.{Virt, Fp, Rv, Arg}
 use Rattle.po_term.specs.Moves.{SetTo, CcTo, StoreTo, Ends}
-use Rattle.po_model.specs.declared.var.Var.{Var}
-use Rattle.po_model.specs.declared.var.Var.TheVariants.{Reg, Cc}
+use Rattle.po_model.specs.declared.var.Var.TheVariants.{Reg}
 use Rattle.po_model.specs.Blocks.{PlainInstr, PlainBlock, instrs_at}
-use Rattle.po_model.specs.LiveAfter.{Point, reads, sets, sets_at, move_sets, ReadOn, IsRead, IsLive}
+use Rattle.po_model.specs.LiveAfter.{Point, reads, sets, move_sets, ReadOn, IsLive}
 use Rattle.po_model.specs.UnitCodes.{written, ReadsBehind}
 
 -- one of these instructions reads the virtual register v
@@ -55,11 +53,13 @@ module _ (code : List PlainBlock) where
   read_on_held behind v (q ∷ path) b set [] h r =
       absurd (none_set v (read_on_held behind v path q.block [] q.rest (subst (λ ys. ReadsBehind [] ys) (sym r.1.1) (behind q.block)) r.2).0)
   read_on_held behind v (q ∷ path) b set (x ∷ xs) h r =
-      let later = read_on_held behind v path q.block (set ++ written x) q.rest (subst (λ ys. ReadsBehind (set ++ written x) ys) (sym r.1.1) h.1) r.2 in
-      (elim (Contains-append_cases set (written x) v later.0) [
-        | inl c ↦ c
-        | inr c ↦ absurd (true≢false (sym (written_sets x v c) ∙ r.0))
-      ], or_right (reads x (Reg (Virt v))) (any_reads xs v) (subst (λ ys. any_reads ys v ≡ true) r.1.1 later.1))
+      let later = read_on_held behind v path q.block (set ++ written x) q.rest (subst (λ ys. ReadsBehind (set ++ written x) ys) (sym r.1.1) h.1) r.2 in (
+        elim (Contains-append_cases set (written x) v later.0) [
+          | inl c ↦ c
+          | inr c ↦ absurd (true≢false (sym (written_sets x v c) ∙ r.0))
+        ],
+        or_right (reads x (Reg (Virt v))) (any_reads xs v) (subst (λ ys. any_reads ys v ≡ true) r.1.1 later.1),
+      )
 
   pub live_held : AreBehind → (v b : ℕ) (set : List ℕ) (xs : List PlainInstr) → ReadsBehind set xs → IsLive code (Reg (Virt v)) (record { block = b; rest = xs }) → IsHeld set xs v
   live_held behind v b set xs h (inl e) = absurd (cc)

@@ -1,7 +1,7 @@
 -- An entry that leaves nothing in cc fits only where cc is dead, so no instruction of placed code empties a cc that is still to be read.
 use Rattle.std.proofs.Common.{◌≡◌, ℕ, zero, suc, ◌+◌, ◌<◌, Bool, true, false, List, [], ◌∷◌, length, drop, refl, sym, ◌∙◌, ap, subst, arith, ◌⊎◌, inl, inr}
 use Rattle.std.specs.Prelude.{◌&&◌, if◌then◌else◌, slice_get, Option, Some, None}
-use Rattle.std.proofs.lemmas.Bool.{false≢true, true≢false}
+use Rattle.std.proofs.lemmas.Bool.{true≢false}
 use Rattle.po_term.specs.declared.term.Reg.{Reg as Register}
 use Rattle.po_term.specs.declared.term.Sym.{Sym}
 use Rattle.po_term.specs.Kinds.{Met, give, words}
@@ -9,7 +9,7 @@ use Rattle.po_model.specs.declared.machine.Entry.{Entry}
 use Rattle.po_model.specs.declared.machine.Machine.{Machine}
 use Rattle.po_model.specs.declared.var.Var.TheVariants.{Cc}
 use Rattle.po_model.specs.Blocks.{PlainInstr, PlainBlock, instrs_at}
-use Rattle.po_model.specs.Fit.{Found, places, moves_found, answered, or_later, entry_fit, first_fit, fit}
+use Rattle.po_model.specs.Fit.{Found, places, moves_found, answered, or_later, first_fit, fit}
 use Rattle.po_model.specs.Fitted.{TellsCc}
 use Rattle.po_model.specs.LiveAfter.{IsLive}
 use Rattle.po_model.specs.Patterns.{pat_moves_of}
@@ -67,9 +67,10 @@ module _ (m : Machine) (at : ℕ → ℕ) (code : List PlainBlock) (live : ℕ �
   keeps_from : (b i : ℕ) (xs : List PlainInstr) → xs ≡ drop i (instrs_at code b) → KeepCc m at code b (live b) i xs
   keeps_from b i [] e = tt
   keeps_from b i (x ∷ xs) e =
-      let here = taken_at i (instrs_at code b) x xs e in
-      (λ l. fit_sparing m (live b i) x (fit m (live b i) x) refl ((tells b i here.0).1 (subst (λ ys. IsLive code Cc (record { block = b; rest = ys })) here.1 l)),
-      keeps_from b (suc i) xs here.1)
+      let here = taken_at i (instrs_at code b) x xs e in (
+        λ l. fit_sparing m (live b i) x (fit m (live b i) x) refl ((tells b i here.0).1 (subst (λ ys. IsLive code Cc (record { block = b; rest = ys })) here.1 l)),
+        keeps_from b (suc i) xs here.1,
+      )
 
   pub keeps_cc : (b : ℕ) → KeepCc m at code b (live b) 0 (instrs_at code b)
   keeps_cc b = keeps_from b 0 (instrs_at code b) refl

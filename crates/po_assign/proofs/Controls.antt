@@ -1,31 +1,23 @@
 -- What a transfer of control leaves as it is, and where it may lead.
-use Rattle.std.proofs.Common.{◌≡◌, ℕ, zero, suc, ◌+◌, ◌<◌, ◌≤◌, Bool, true, false, List, [], ◌∷◌, ◌++◌, map, length, refl, sym, ◌∙◌, ap, subst, arith, inl, inr}
-use Rattle.std.specs.Prelude.{◌==◌, ◌||◌, not, if◌then◌else◌, Contains, AllPairs, Option, Some, None, ⊤}
-use Rattle.std.specs.Option.{option_map}
-use Rattle.std.proofs.lemmas.Bool.{false≢true, true≢false}
+use Rattle.std.proofs.Common.{◌≡◌, ℕ, suc, Bool, true, false, List, [], ◌∷◌, refl, subst, arith}
+use Rattle.std.specs.Prelude.{◌||◌, not, if◌then◌else◌, AllPairs, Option, Some, None, ⊤}
+use Rattle.std.proofs.lemmas.Bool.{false≢true}
 use Rattle.po_word.specs.declared.operator.Rel.{Rel}
 use Rattle.po_word.specs.Words.{rel_value}
 use Rattle.po_term.specs.declared.term.Reg.{Reg as Register}
 use Rattle.po_term.specs.declared.term.Reg.TheVariants.{Virt, Fp, Rv, Arg}
 use Rattle.po_term.specs.declared.term.Sym.{Sym}
 use Rattle.po_term.specs.declared.term.Label.{Label}
-use Rattle.po_term.specs.Terms.{Place, InReg, AtSym, State, value}
+use Rattle.po_term.specs.Terms.{Place, InReg, State, value}
 use Rattle.po_term.specs.Moves.{Ending, GoTo, IfCc, IfTwo, CallOf, Return, SetTo, CcTo, StoreTo, Ends}
 use Rattle.po_term.specs.Simplified.{reg_eq}
-use Rattle.po_term.specs.Form.{GoesBefore, WellFormed}
-use Rattle.po_model.specs.declared.machine.Machine.{Machine}
+use Rattle.po_term.specs.Form.{GoesBefore}
 use Rattle.po_model.specs.declared.var.Var.{Var}
 use Rattle.po_model.specs.declared.var.Var.TheVariants.{Reg, Cc}
-use Rattle.po_model.specs.Blocks.{PlainInstr, PlainBlock, ending_of as control_of, block_ending, block_with, target_by, goes_on, EndsLast}
+use Rattle.po_model.specs.Blocks.{PlainInstr, PlainBlock, block_with, target_by, goes_on}
 use Rattle.po_model.specs.Parts.{plainly, right_at, cc_of, ending_of}
-use Rattle.po_model.specs.Effect.{Control, Next, Jump, Called, Returned, Done, new_word, branch, by_cc, arguments, after, goes, effect}
-use Rattle.po_model.specs.Fit.{fit}
-use Rattle.po_model.specs.LiveAfter.{Point, is_reg, is_cc, move_sets, reads, sets, IsLive}
-use Rattle.po_model.specs.Run.{in_turn}
-use Rattle.po_model.specs.Placed.{place_of, placed_instr, unless_clobbered, effect_on, found_clobbers, placed_from}
-use Rattle.po_model.specs.UnitCodes.{written, ReadsBehind}
-use Rattle.po_assign.proofs.Boundary.{any_reads, AreBehind, live_held}
-use Rattle.po_assign.proofs.PlacedReads.{Holds, HoldsWhere, ApartFrom, symbol_stays, memory_placed, cc_placed, goes_placed, word_placed}
+use Rattle.po_model.specs.Effect.{Control, Next, Jump, Called, Returned, branch, by_cc, arguments, goes}
+use Rattle.po_model.specs.LiveAfter.{is_reg, is_cc, move_sets, sets}
 
 -- what a transfer of control leaves as it is: a call sets rv and empties cc
 abbrev pub passes : Control → Var → Bool

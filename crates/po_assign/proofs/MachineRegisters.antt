@@ -1,7 +1,6 @@
 -- Where a virtual register is written while another one is still to be read, their machine registers are two.
 use Rattle.std.proofs.Common.{◌≡◌, ℕ, zero, suc, ◌+◌, ◌*◌, ◌<◌, ◌≤◌, Bool, true, false, List, [], ◌∷◌, ◌++◌, length, get_or, map, reverse, refl, sym, ◌∙◌, ap, subst, arith, ◌⊎◌, inl, inr, eq-eqb, append_assoc, append-nil}
-use Rattle.std.specs.Prelude.{◌==◌, ◌||◌, nat_le, if◌then◌else◌, ◌≢◌, AllPairs, Contains, IsTrue}
-use Rattle.std.specs.List.{list_any}
+use Rattle.std.specs.Prelude.{◌||◌, if◌then◌else◌, ◌≢◌, AllPairs, Contains, IsTrue}
 use Rattle.std.proofs.lemmas.Bool.{false≢true, le-leb, ne_eqb, cases_eq, cases_lt}
 use Rattle.std.proofs.lemmas.List.{get_or_default, get_or-map, map-append, length-map}
 use Rattle.std.proofs.lemmas.List.Elements.{Contains-append_left, Contains-append_right, Contains-append_cases}
@@ -10,7 +9,7 @@ use Rattle.po_term.specs.declared.term.Reg.TheVariants.{Virt}
 use Rattle.po_model.specs.declared.var.Var.TheVariants.{Reg}
 use Rattle.po_model.specs.Blocks.{PlainInstr}
 use Rattle.po_model.specs.LiveAfter.{reads}
-use Rattle.po_model.specs.Placement.{last_read, Interval, interval_of, intervals_from, intervals, contains, IsUncrowded, PlacedInterval, lowest_from, place_from, placement, pair_of, registers, machine_of, AreApart}
+use Rattle.po_model.specs.Placement.{last_read, Interval, interval_of, intervals_from, intervals, contains, IsUncrowded, PlacedInterval, lowest_from, place_from, placement, pair_of, registers, machine_of}
 use Rattle.po_model.specs.UnitCodes.{written, all_written}
 use Rattle.po_assign.proofs.LastReads.{read_later}
 use Rattle.po_assign.proofs.Apart.{placement_apart}
@@ -49,9 +48,6 @@ either_order {X = X} R xs h x y c d n =
 abbrev pub HasInterval : List Interval → ℕ → ℕ → Type 0
 HasInterval is v point = (i : Interval) × Contains is i × (i.register ≡ v) × (i.start ≤ point) × (point ≤ i.finish)
 
-interval_later : (i : Interval) (is js : List Interval) (v point : ℕ) → HasInterval js v point → HasInterval (is ++ js) v point
-interval_later i is js v point h = (h.0, Contains-append_right is js h.0 h.1, h.2, h.3, h.4)
-
 -- what these instructions read is read last at the first of their points, or later
 read_last : (v last p : ℕ) (after : List PlainInstr) → any_reads after v ≡ true → 2 * p ≤ last_read v last p after
 read_last v last p [] r = absurd (false≢true r)
@@ -73,9 +69,13 @@ held_interval p [] after v point c r e = absurd (omega (arith, c.1))
 held_interval p (x ∷ xs) after v point c r e =
     elim (Contains-append_cases (written x) (all_written xs) v c) [
       | inl here ↦
-          let i = interval_of p (xs ++ after) v in
-          (i, Contains-append_left (map (interval_of p (xs ++ after)) (written x)) (intervals_from (suc p) (xs ++ after)) i (contains_map (interval_of p (xs ++ after)) (written x) v here),
-          refl, omega arith, omega (arith, read_behind_these v (2 * p + 1) (suc p) xs after r))
+          let i = interval_of p (xs ++ after) v in (
+            i,
+            Contains-append_left (map (interval_of p (xs ++ after)) (written x)) (intervals_from (suc p) (xs ++ after)) i (contains_map (interval_of p (xs ++ after)) (written x) v here),
+            refl,
+            omega arith,
+            omega (arith, read_behind_these v (2 * p + 1) (suc p) xs after r),
+          )
       | inr there ↦
           let h = held_interval (suc p) xs after v point there r (omega arith) in
           (h.0, Contains-append_right (map (interval_of p (xs ++ after)) (written x)) (intervals_from (suc p) (xs ++ after)) h.0 h.1, h.2, h.3, h.4)
@@ -85,9 +85,13 @@ held_interval p (x ∷ xs) after v point c r e =
 pub written_interval : (p : ℕ) (before : List PlainInstr) (x : PlainInstr) (after : List PlainInstr) (w point : ℕ) → Contains (written x) w → point ≡ 2 * (p + length before) + 1
     → HasInterval (intervals_from p (before ++ x ∷ after)) w point
 written_interval p [] x after w point c e =
-    let i = interval_of p after w in
-    (i, Contains-append_left (map (interval_of p after) (written x)) (intervals_from (suc p) after) i (contains_map (interval_of p after) (written x) w c),
-    refl, omega arith, omega (arith, read_later w (2 * p + 1) (suc p) after (omega arith)))
+    let i = interval_of p after w in (
+      i,
+      Contains-append_left (map (interval_of p after) (written x)) (intervals_from (suc p) after) i (contains_map (interval_of p after) (written x) w c),
+      refl,
+      omega arith,
+      omega (arith, read_later w (2 * p + 1) (suc p) after (omega arith)),
+    )
 written_interval p (y ∷ ys) x after w point c e =
     let h = written_interval (suc p) ys x after w point c (omega arith) in
     (h.0, Contains-append_right (map (interval_of p (ys ++ x ∷ after)) (written y)) (intervals_from (suc p) (ys ++ x ∷ after)) h.0 h.1, h.2, h.3, h.4)

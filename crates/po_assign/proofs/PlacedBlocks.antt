@@ -1,5 +1,5 @@
 -- What each block of a straight code gives to its placed run: what is live behind an instruction has a place that the instruction doesn't write.
-use Rattle.std.proofs.Common.{◌≡◌, ℕ, zero, suc, ◌+◌, ◌*◌, ◌<◌, true, List, [], ◌∷◌, ◌++◌, length, get_or, refl, sym, ◌∙◌, ap, subst, arith, ◌⊎◌, inl, inr, append_assoc, append-nil}
+use Rattle.std.proofs.Common.{◌≡◌, ℕ, zero, suc, ◌+◌, ◌*◌, true, List, [], ◌∷◌, ◌++◌, length, refl, sym, ◌∙◌, ap, subst, arith, ◌⊎◌, inl, inr, append_assoc}
 use Rattle.std.specs.Prelude.{◌≢◌, All, AllPairs, Contains}
 use Rattle.std.proofs.lemmas.Bool.{cases_eq}
 use Rattle.std.proofs.lemmas.List.{length_push}
@@ -60,12 +60,13 @@ module _ (m : Machine) (code : List PlainBlock) (un : IsUncrowded (length m.regs
   apart_from before set [] after e h = tt
   apart_from before set (x ∷ xs) after e h =
       let push : (v : ℕ) → Contains (set ++ written x) v → Contains (all_written (before ++ x ∷ [])) v = λ v c.
-          written_push before x v (elim (Contains-append_cases set (written x) v c) [
-            | inl s ↦ inl (h v s)
-            | inr s ↦ inr s
-          ]) in
-      (λ v c r w d same. here_apart before x (xs ++ after) e v w (push v c) (list_any-append (λ y. reads y (Reg (Virt v))) xs after ∙ or_left (any_reads xs v) (any_reads after v) r) d same,
-      apart_from (before ++ x ∷ []) (set ++ written x) xs after (e ∙ sym (append_assoc before (x ∷ []) (xs ++ after))) push)
+      written_push before x v (elim (Contains-append_cases set (written x) v c) [
+        | inl s ↦ inl (h v s)
+        | inr s ↦ inr s
+      ]) in (
+        λ v c r w d same. here_apart before x (xs ++ after) e v w (push v c) (list_any-append (λ y. reads y (Reg (Virt v))) xs after ∙ or_left (any_reads xs v) (any_reads after v) r) d same,
+        apart_from (before ++ x ∷ []) (set ++ written x) xs after (e ∙ sym (append_assoc before (x ∷ []) (xs ++ after))) push,
+      )
 
   pub places_apart : (b : ℕ) → PlacesApart m (placed_at m code) code [] (instrs_at code b)
   places_apart b = let around = flat_around code b in apart_from around.0 [] (instrs_at code b) around.1 around.2 (λ v c. absurd (omega (arith, c.1)))

@@ -1,25 +1,24 @@
 -- Where a run of the placed code goes from the end of a block, and what the states agree on there.
-use Rattle.std.proofs.Common.{◌≡◌, ℕ, zero, suc, Bool, true, false, List, [], ◌∷◌, ◌++◌, length, refl, sym, ◌∙◌, ap, subst, inl, inr, eq-eqb}
-use Rattle.std.specs.Prelude.{◌==◌, ◌||◌, not, nat_lt, if◌then◌else◌, Option, Some, None, ⊤}
+use Rattle.std.proofs.Common.{◌≡◌, ℕ, suc, Bool, true, false, List, [], ◌∷◌, ◌++◌, length, refl, sym, ◌∙◌, ap, subst, inl, inr, eq-eqb}
+use Rattle.std.specs.Prelude.{◌==◌, ◌||◌, not, nat_lt, if◌then◌else◌, Option, Some, None}
 use mathlib.Core.Path.{fun_ext}
 use Rattle.po_term.specs.declared.term.Reg.{Reg as Register}
 use Rattle.po_term.specs.declared.term.Reg.TheVariants.{Virt, Fp, Rv, Arg}
 use Rattle.po_term.specs.declared.term.Sym.{Sym}
 use Rattle.po_term.specs.declared.term.Label.{Label}
 use Rattle.po_term.specs.Terms.{InReg, AtSym, State}
-use Rattle.po_term.specs.Moves.{Ending}
 use Rattle.po_term.specs.Simplified.{reg_eq}
 use Rattle.po_model.specs.declared.machine.Machine.{Machine}
 use Rattle.po_model.specs.declared.var.Var.{Var}
 use Rattle.po_model.specs.declared.var.Var.TheVariants.{Reg, Cc}
 use Rattle.po_model.specs.Blocks.{PlainBlock, instrs_at, block_with, target_by, ending_at, next_at, goes_on, is_at, leads}
 use Rattle.po_model.specs.Effect.{Control, Next, Jump, Called, Returned, Done}
-use Rattle.po_model.specs.LiveAfter.{Point, is_reg, is_cc, IsLive}
-use Rattle.po_model.specs.Run.{Write, Reply, Call, Stop, Before, Behind, LiveWhere, Same, SameResult, written as written_to, replied, if_there, stands_before, answered, leave, leave_done}
+use Rattle.po_model.specs.LiveAfter.{is_reg, is_cc, IsLive}
+use Rattle.po_model.specs.Run.{Write, Reply, Call, Before, LiveWhere, Same, SameResult, written as written_to, replied, stands_before, answered, leave, leave_done}
 use Rattle.po_model.specs.Placed.{place_of}
 use Rattle.po_assign.proofs.Boundary.{or_left, or_right}
 use Rattle.po_assign.proofs.PlacedReads.{Holds}
-use Rattle.po_assign.proofs.Controls.{passes, reg_swap, Comes}
+use Rattle.po_assign.proofs.Controls.{reg_swap, Comes}
 use Rattle.po_assign.proofs.PlacedSteps.{Agree, Ended}
 
 writes_same : (ws : List Write) (f g : ℕ → ℕ) → ((a : ℕ) → f a ≡ g a) → (a : ℕ) → written_to ws f a ≡ written_to ws g a

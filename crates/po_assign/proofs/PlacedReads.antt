@@ -1,13 +1,12 @@
 -- A placed instruction reads in its state what the instruction reads in the other, where they agree on what it reads.
-use Rattle.std.proofs.Common.{◌≡◌, ℕ, zero, suc, ◌+◌, ◌<◌, ◌≤◌, Bool, true, false, List, [], ◌∷◌, map, refl, sym, ◌∙◌, ap, subst, arith, eq-eqb, inl, inr}
-use Rattle.std.specs.Prelude.{◌==◌, ◌||◌, if◌then◌else◌, Contains, Option, Some, None, ⊤}
-use Rattle.std.specs.List.{list_any}
+use Rattle.std.proofs.Common.{◌≡◌, ℕ, zero, suc, ◌+◌, ◌<◌, Bool, true, false, List, [], ◌∷◌, refl, ◌∙◌, ap, arith, eq-eqb, inl, inr}
+use Rattle.std.specs.Prelude.{◌==◌, ◌||◌, if◌then◌else◌, Contains, Some, None, ⊤}
 use Rattle.std.proofs.lemmas.Bool.{le-leb, ne_eqb, cases_eq}
-use Rattle.po_word.specs.Words.{un_value, bin_value, rel_value}
+use Rattle.po_word.specs.Words.{un_value, bin_value}
 use Rattle.po_term.specs.declared.term.Reg.{Reg as Register}
 use Rattle.po_term.specs.declared.term.Reg.TheVariants.{Virt, Fp, Rv, Arg}
 use Rattle.po_term.specs.declared.term.Sym.{Sym}
-use Rattle.po_term.specs.Tree.{Tree, Const, Leaf, Read, Unary, Binary, tree_map}
+use Rattle.po_term.specs.Tree.{Const, Leaf, Read, Unary, Binary, tree_map}
 use Rattle.po_term.specs.Terms.{Place, InReg, AtSym, State, value}
 use Rattle.po_term.specs.Moves.{Ending, GoTo, IfCc, IfTwo, CallOf, Return, SetTo, CcTo, StoreTo, Ends}
 use Rattle.po_term.specs.Simplified.{reg_eq}
@@ -15,7 +14,7 @@ use Rattle.po_model.specs.declared.var.Var.{Var}
 use Rattle.po_model.specs.declared.var.Var.TheVariants.{Reg, Cc}
 use Rattle.po_model.specs.Blocks.{PlainInstr}
 use Rattle.po_model.specs.Parts.{plainly, right_at, cc_of, store_of, ending_of}
-use Rattle.po_model.specs.Effect.{Word, branch, by_cc, new_word, new_memory, new_cc, goes, arguments, Called, Returned}
+use Rattle.po_model.specs.Effect.{Word, by_cc, new_word, new_memory, new_cc, goes, arguments, Called, Returned}
 use Rattle.po_model.specs.LiveAfter.{term_reads, move_reads, reads, is_reg, is_arg_of}
 use Rattle.po_model.specs.Placed.{place_of, placed_leaf, placed_instr}
 use Rattle.po_model.specs.UnitCodes.{written}

@@ -1,6 +1,6 @@
 -- Placed code runs as the code before placement.
-use Rattle.std.proofs.Common.{◌≡◌, ℕ, zero, suc, Bool, List, [], length, refl, sym, ◌∙◌, ap, subst, arith}
-use Rattle.std.specs.Prelude.{All, Option, Some, None, ⊤}
+use Rattle.std.proofs.Common.{◌≡◌, ℕ, zero, suc, Bool, List, [], refl, sym, subst, arith}
+use Rattle.std.specs.Prelude.{All, Option, Some, None}
 use Rattle.po_term.specs.declared.term.Reg.{Reg as Register}
 use Rattle.po_term.specs.declared.term.Reg.TheVariants.{Virt, Fp, Rv, Arg}
 use Rattle.po_term.specs.Terms.{InReg, State}
@@ -8,7 +8,7 @@ use Rattle.po_term.specs.Form.{WellFormed}
 use Rattle.po_model.specs.declared.machine.Machine.{Machine}
 use Rattle.po_model.specs.declared.var.Var.{Var}
 use Rattle.po_model.specs.declared.var.Var.TheVariants.{Reg, Cc}
-use Rattle.po_model.specs.Blocks.{PlainBlock, instrs_at, EndsLast, IsCode}
+use Rattle.po_model.specs.Blocks.{PlainBlock, instrs_at, EndsLast}
 use Rattle.po_model.specs.Effect.{Next}
 use Rattle.po_model.specs.LiveAfter.{IsLive}
 use Rattle.po_model.specs.Placed.{place_of, placed_at, placed_doings}

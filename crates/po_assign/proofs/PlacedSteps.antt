@@ -1,5 +1,5 @@
 -- The placed instructions of a block do what its instructions do, as far as it is live behind them.
-use Rattle.std.proofs.Common.{◌≡◌, ℕ, zero, suc, Bool, true, false, List, [], ◌∷◌, ◌++◌, map, arith, refl, sym, ◌∙◌, ap, subst, inl, inr}
+use Rattle.std.proofs.Common.{◌≡◌, ℕ, suc, Bool, true, false, List, [], ◌∷◌, ◌++◌, map, arith, refl, sym, ◌∙◌, ap, subst, inl, inr}
 use Rattle.std.specs.Prelude.{if◌then◌else◌, Contains, All, Option, Some, None, ⊤}
 use Rattle.std.specs.Option.{option_map}
 use Rattle.po_term.specs.declared.term.Reg.{Reg as Register}
@@ -12,12 +12,12 @@ use Rattle.po_model.specs.declared.machine.Machine.{Machine}
 use Rattle.po_model.specs.declared.var.Var.{Var}
 use Rattle.po_model.specs.declared.var.Var.TheVariants.{Reg, Cc}
 use Rattle.po_model.specs.Blocks.{PlainInstr, PlainBlock, ending_of as control_of, block_ending, EndsLast}
-use Rattle.po_model.specs.Parts.{plainly, right_at, cc_of, ending_of}
-use Rattle.po_model.specs.Effect.{Control, Next, Jump, Called, Returned, Done, new_word, new_cc, after, goes, effect}
+use Rattle.po_model.specs.Parts.{cc_of, ending_of}
+use Rattle.po_model.specs.Effect.{Control, Next, Jump, Called, Returned, Done, new_cc, after, goes, effect}
 use Rattle.po_model.specs.Fit.{fit}
-use Rattle.po_model.specs.LiveAfter.{Point, reads, sets, IsLive}
+use Rattle.po_model.specs.LiveAfter.{reads, sets, IsLive}
 use Rattle.po_model.specs.Run.{Doing, and_on, in_turn}
-use Rattle.po_model.specs.Placed.{place_of, placed_instr, unless_clobbered, effect_on, found_clobbers, placed_from}
+use Rattle.po_model.specs.Placed.{place_of, placed_instr, unless_clobbered, found_clobbers, placed_from}
 use Rattle.po_model.specs.UnitCodes.{written, ReadsBehind}
 use Rattle.po_assign.proofs.Boundary.{any_reads, AreBehind, live_held}
 use Rattle.po_assign.proofs.PlacedReads.{Holds, HoldsWhere, ApartFrom, symbol_stays, memory_placed, cc_placed, goes_placed, word_placed}
@@ -136,8 +136,10 @@ module _ (m : Machine) (at : ℕ → ℕ) (code : List PlainBlock) where
       let once = ends_once x (formed 0 x (omega arith)).pairs in
       last_ended b (control_of x) (after s x) (after t (placed_instr at x)) clobbers (goes s (ending_of x)) (goes t (ending_of (placed_instr at x)))
       (goes_placed at s t a.memory a.symbols x (λ v e. a.live v refl (inr ([], e))))
-      (λ c to. (subst (λ e. Comes code e c) (sym (controls_same x)) (comes_of code s (ending_of x) c to),
-      agree_after b x [] once clobbers s t c to (live_apart behind b set x [] reading.1 apart.0) keeps.0 a))
+      (λ c to. (
+        subst (λ e. Comes code e c) (sym (controls_same x)) (comes_of code s (ending_of x) c to),
+        agree_after b x [] once clobbers s t c to (live_apart behind b set x [] reading.1 apart.0) keeps.0 a,
+      ))
   block_ended behind b live (x ∷ y ∷ ys) i set s t last formed reading apart keeps a =
       let clobbers = found_clobbers m (fit m (live i) x) in
       let once = ends_once x (formed 0 x (omega arith)).pairs in
