@@ -46,6 +46,7 @@ module _ (code : List PlainBlock) where
   none_set : (v : ℕ) → Contains [] v → ⊥
   none_set v h = absurd (omega (arith, h.1))
 
+  -- along a path: where a block ends, its successor would read what isn't set in it
   read_on_held : AreBehind → (v : ℕ) (path : List Point) (b : ℕ) (set : List ℕ) (xs : List PlainInstr) → ReadsBehind set xs
       → ReadOn code (Reg (Virt v)) (record { block = b; rest = xs }) path → IsHeld set xs v
   read_on_held behind v [] b set [] h r = absurd (false≢true r)

@@ -23,6 +23,7 @@ Finds = List (Found ℕ Register Sym)
 abbrev IsSparing : Bool → List Entry → ℕ → ℕ → Type 0
 IsSparing live es n number = (k : ℕ) × (number ≡ n + k) × ((e : Entry) × (slice_get es k ≡ Some e) × ((e.clobbers && live) ≡ false))
 
+-- what is found is found at the first entry, or at a later one
 found_here : (n : ℕ) (o : Option Finds) (later : Met ℕ (Option (ℕ × Finds))) (found : ℕ × Finds) → (or_later places n o later).got ≡ Some found → (found.0 ≡ n) ⊎ (later.got ≡ Some found)
 found_here n None later found h = inr h
 found_here n (Some fs) later found h = let e : (n, fs) ≡ found = (cc) in inl (sym (ap {A = ℕ × Finds} (λ p. p.0) e))
@@ -48,6 +49,7 @@ spared : (c live : Bool) → (c && live) ≡ false → live ≡ true → c ≡ f
 spared true live e l = absurd (true≢false (sym l ∙ e))
 spared false live e l = refl
 
+-- the entry that an instruction fits where cc is live
 fit_sparing : (m : Machine) (live : Bool) (x : PlainInstr) (o : Option (ℕ × Finds)) → fit m live x ≡ o → live ≡ true → found_clobbers m o ≡ false
 fit_sparing m live x None f l = refl
 fit_sparing m live x (Some found) f l =

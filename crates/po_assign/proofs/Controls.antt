@@ -34,6 +34,7 @@ EndsOnce (CcTo t u ∷ ms) = EndsOnce ms
 EndsOnce (StoreTo t u ∷ ms) = EndsOnce ms
 EndsOnce (Ends e ∷ ms) = ms ≡ []
 
+-- transfers stand in the order of their kinds, and only of sets there is more than one
 none_behind : (e : _) (ms : PlainInstr) → AllPairs GoesBefore (Ends e ∷ ms) → ms ≡ []
 none_behind e [] h = refl
 none_behind e (SetTo r t ∷ ms) h = absurd (omega (arith, (h 0 1 (Ends e) (omega arith) (omega arith)).in_order))
@@ -107,6 +108,7 @@ module _ (code : List PlainBlock) where
   Comes e (Called f ws) = goes_on e ≡ true
   Comes e (Returned w) = ⊤
 
+  -- a branch goes to its label or on
   branch_comes : (b : Bool) (e : Option (Ending ℕ Place Sym)) (l : Label) (c : Control) → branch b l ≡ c → goes_on e ≡ true → target_by code e ≡ block_with code l → Comes e c
   branch_comes true e l c i g t = subst (Comes e) i t
   branch_comes false e l c i g t = subst (Comes e) i g
@@ -115,6 +117,7 @@ module _ (code : List PlainBlock) where
   cc_comes None r l c g = absurd (cc)
   cc_comes (Some p) r l c g = let i : branch (rel_value r p.0 p.1) l ≡ c = (cc) in branch_comes (rel_value r p.0 p.1) (Some (IfCc r l)) l c i refl refl
 
+  -- control goes where the transfer that sent it may lead
   pub comes_of : (s : State) (e : Option (Ending ℕ Place Sym)) (c : Control) → goes s e ≡ Some c → Comes e c
   comes_of s None c g = let i : Next ≡ c = (cc) in subst (Comes None) i refl
   comes_of s (Some (GoTo l)) c g = let i : Jump l ≡ c = (cc) in subst (Comes (Some (GoTo l))) i refl

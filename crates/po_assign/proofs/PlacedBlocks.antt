@@ -32,6 +32,7 @@ each_block P none [] h b = none
 each_block P none (x ∷ xs) h zero = h 0 x (omega arith)
 each_block P none (x ∷ xs) h (suc b) = each_block P none xs (λ k d l. h (suc k) d (omega arith)) b
 
+-- what is written before an instruction, or by it
 written_push : (before : List PlainInstr) (x : PlainInstr) (v : ℕ) → Contains (all_written before) v ⊎ Contains (written x) v → Contains (all_written (before ++ x ∷ [])) v
 written_push before x v h =
     subst (λ (vs : List ℕ). Contains vs v) (sym (flat_map-append written before (x ∷ [])))
@@ -55,6 +56,7 @@ module _ (m : Machine) (code : List PlainBlock) (un : IsUncrowded (length m.regs
         | inr n ↦ absurd (machines_apart (length m.regs) (flat code) un once v w point of_v of_w n same)
       ]
 
+  -- the rest of a block, with the instructions of the code before and behind it
   apart_from : (before : List PlainInstr) (set : List ℕ) (xs after : List PlainInstr) → flat code ≡ before ++ (xs ++ after) → ((v : ℕ) → Contains set v → Contains (all_written before) v)
       → PlacesApart m (placed_at m code) code set xs
   apart_from before set [] after e h = tt

@@ -30,6 +30,7 @@ rv_word : (b : Bool) (w x y : ℕ) → (b ≡ false → x ≡ y) → (if b then 
 rv_word true w x y h = refl
 rv_word false w x y h = h refl
 
+-- rv has its own place, and no other register has it
 not_rv : (at : ℕ → ℕ) (r : Register) → reg_eq (place_of at r) Rv ≡ reg_eq r Rv
 not_rv at (Virt v) = refl
 not_rv at Fp = refl
@@ -40,6 +41,7 @@ kept_by_call : (b : Bool) → b ≡ false → not (b || false) ≡ true
 kept_by_call b e = rw e refl
 
 module _ (m : Machine) (at : ℕ → ℕ) (code : List PlainBlock) where
+  -- a reply makes rv and cc alike
   replied_holds : (r : Reply) (s t : State) (v : Var) → (not (is_reg Rv v || is_cc v) ≡ true → Holds at s t v) → Holds at (replied r s) (replied r t) v
   replied_holds r s t (Reg q) h =
       rw (not_rv at q) (rv_word (reg_eq q Rv) r.word (s.place (InReg q)) (t.place (InReg (place_of at q))) (λ n. h (kept_by_call (reg_eq Rv q) (reg_swap Rv q ∙ n))))
@@ -78,6 +80,7 @@ module _ (m : Machine) (at : ℕ → ℕ) (code : List PlainBlock) where
     compared = λ l. live Cc l;
   }
 
+  -- the next block
   behind_alike : (b : ℕ) (there : Bool) (s t : State) (calls others : List Call) (replies : List Reply) → nat_lt (suc b) (length code) ≡ there → goes_on (ending_at code b) ≡ true
       → calls ≡ others → ((a : ℕ) → s.memory a ≡ t.memory a) → ((y : Sym) → s.place (AtSym y) ≡ t.place (AtSym y))
       → ((v : Var) → IsLive code v (record { block = b; rest = [] }) → Holds at s t v)
@@ -86,11 +89,13 @@ module _ (m : Machine) (at : ℕ → ℕ) (code : List PlainBlock) where
       stand_alike (suc b) s t calls others replies e memory symbols (λ v l. live v (live_from v b (suc b) (leads_behind b there goes) l))
   behind_alike b false s t calls others replies there goes e memory symbols live = tt
 
+  -- the block of a label
   target_alike : (b : ℕ) (l : Label) (o : Option ℕ) (s t : State) (calls : List Call) (replies : List Reply) → block_with code l ≡ o → target_by code (ending_at code b) ≡ block_with code l
       → Agree m at code (Jump l) b [] s t → SameResult code (place_of at) (stands_before code o s calls replies) (stands_before code o t calls replies)
   target_alike b l None s t calls replies f e a = tt
   target_alike b l (Some q) s t calls replies f e a = stand_alike q s t calls calls replies refl a.memory a.symbols (λ v k. a.live v refl (live_from v b q (leads_to b q l e f) k))
 
+  -- a call with its reply
   answered_alike : (b : ℕ) (f : Sym) (ws : List ℕ) (s t : State) (calls : List Call) (replies : List Reply) → goes_on (ending_at code b) ≡ true
       → Agree m at code (Called f ws) b [] s t → SameResult code (place_of at) (answered code b f ws s calls replies) (answered code b f ws t calls replies)
   answered_alike b f ws s t calls [] goes a = tt
@@ -99,9 +104,11 @@ module _ (m : Machine) (at : ℕ → ℕ) (code : List PlainBlock) where
       refl goes (ap (λ (g : ℕ → ℕ). calls ++ record { name = f; words = ws; memory = g } ∷ []) (fun_ext a.memory))
       (writes_same r.writes s.memory t.memory a.memory) a.symbols (λ v l. replied_holds r s t v (λ p. a.live v p l))
 
+  -- behind a return only fp is live
   returned_holds : (b w : ℕ) (s t : State) → Agree m at code (Returned w) b [] s t → (v : Var) → v ≡ Reg Fp → Holds at s t v
   returned_holds b w s t a v e = a.live v refl (inl e)
 
+  -- from the end of a block, by where control goes
   pub leave_alike : (b : ℕ) (s t : State) (c : Control) (calls : List Call) (replies : List Reply) → Comes code (ending_at code b) c → Agree m at code c b [] s t
       → SameResult code (place_of at) (leave code b s c calls replies) (leave code b t c calls replies)
   leave_alike b s t Next calls replies k a =

@@ -1,4 +1,4 @@
--- A placed instruction reads in its state what the instruction reads in the other, where they agree on what it reads.
+-- A placed instruction reads and sets in its state what the instruction reads and sets in the other, where they agree on what it reads.
 use Rattle.std.proofs.Common.{◌≡◌, ℕ, zero, suc, ◌+◌, ◌<◌, Bool, true, false, List, [], ◌∷◌, refl, ◌∙◌, ap, arith, eq-eqb, inl, inr}
 use Rattle.std.specs.Prelude.{◌==◌, ◌||◌, if◌then◌else◌, Contains, Some, None, ⊤}
 use Rattle.std.proofs.lemmas.Bool.{le-leb, ne_eqb, cases_eq}
@@ -42,6 +42,7 @@ abbrev Separate : (ℕ → ℕ) → Register → Register → Type 0
 Separate at (Virt v) (Virt w) = at v ≡ at w → v ≡ w
 Separate at r q = ⊤
 
+-- of the first set of an instruction, and of those behind it
 apart_first : (at : ℕ → ℕ) (r q : Register) (u : Word) (ms : PlainInstr) → ApartFrom at r (written (SetTo q u ∷ ms)) → Separate at r q
 apart_first at (Virt v) (Virt w) u ms h = h w (0, omega arith, refl)
 apart_first at (Virt v) Fp u ms h = tt
@@ -60,6 +61,7 @@ apart_later at Fp q u ms h = tt
 apart_later at Rv q u ms h = tt
 apart_later at (Arg k) q u ms h = tt
 
+-- where only one register has a place, tests of places answer as tests of registers
 number_alike : (at : ℕ → ℕ) (v w : ℕ) → (at v ≡ at w → v ≡ w) → (at v == at w) ≡ (v == w)
 number_alike at v w h =
     elim (cases_eq v w) [
@@ -117,6 +119,7 @@ module _ (at : ℕ → ℕ) (s t : State) where
   later_reads m ms h = holds_right (move_reads m) (reads ms) h
 
   module _ (memory : (a : ℕ) → s.memory a ≡ t.memory a) (symbols : (y : Sym) → s.place (AtSym y) ≡ t.place (AtSym y)) where
+    -- a placed term has the term's word
     pub value_placed : (x : Word) → HoldsWhere (term_reads x) → value s x ≡ value t (placed_word at x)
     value_placed (Const c) h = refl
     value_placed (Leaf (InReg r)) h = h (Reg r) (reg_same r)
@@ -127,6 +130,7 @@ module _ (at : ℕ → ℕ) (s t : State) where
         ap (λ a. bin_value o a (value s y)) (value_placed x (holds_left (term_reads x) (term_reads y) h))
         ∙ ap (λ b. bin_value o (value t (placed_word at x)) b) (value_placed y (holds_right (term_reads x) (term_reads y) h))
 
+    -- the same word stands at each address behind both
     pub memory_placed : (x : PlainInstr) → HoldsWhere (reads x) → (a : ℕ) → new_memory s (store_of x) a ≡ new_memory t (store_of (placed_instr at x)) a
     memory_placed [] h a = memory a
     memory_placed (SetTo r u ∷ ms) h a = memory_placed ms (later_reads (SetTo r u) ms h) a
@@ -146,6 +150,7 @@ module _ (at : ℕ → ℕ) (s t : State) where
     cc_placed (StoreTo u w ∷ ms) h k = cc_placed ms (later_reads (StoreTo u w) ms h) k
     cc_placed (Ends e ∷ ms) h k = cc_placed ms (later_reads (Ends e) ms h) k
 
+    -- argument registers are their own places
     arguments_same : (n k : ℕ) → ((j : ℕ) → j < k + n → s.place (InReg (Arg j)) ≡ t.place (InReg (Arg j))) → arguments s n k ≡ arguments t n k
     arguments_same zero k h = refl
     arguments_same (suc n) k h = rw (h k (omega arith), arguments_same n (suc k) (λ j l. h j (omega arith))) refl

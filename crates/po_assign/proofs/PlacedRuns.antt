@@ -40,6 +40,7 @@ module _ (m : Machine) (at : ℕ → ℕ) (code : List PlainBlock) (live : ℕ �
   agree_before : (b : ℕ) (x y : Run) → Alike x y → x.at ≡ Before b → Agree m at code Next b (instrs_at code b) x.state y.state
   agree_before b x y a e = record { memory = a.memory; symbols = a.symbols; live = λ v p l. live_alike b x y a e v l }
 
+  -- one block of both
   block_alike : (stop : Stop) (x y : Run) → Alike x y → x.at ≡ stop → SameResult code (place_of at) (run_block code (own_doings code) stop x) (run_block code placed stop y)
   block_alike (Before b) x y a e =
       let ended = block_ended m at code behind b (live b) (instrs_at code b) 0 [] x.state y.state (last b) (formed b) (behind b) (apart b) (keeps b) (agree_before b x y a e) in
@@ -56,12 +57,14 @@ module _ (m : Machine) (at : ℕ → ℕ) (code : List PlainBlock) (live : ℕ �
   both_alike go others (Some x) None h a = absurd a
   both_alike go others (Some x) (Some y) h a = h x y a
 
+  -- n blocks of both: either has a result exactly where the other has one
   pub runs_alike : (n : ℕ) (x y : Run) → Alike x y → SameResult code (place_of at) (run_blocks code (own_doings code) n x) (run_blocks code placed n y)
   runs_alike zero x y a = a
   runs_alike (suc n) x y a =
       both_alike (run_blocks code (own_doings code) n) (run_blocks code placed n) (run_block code (own_doings code) x.at x) (run_block code placed y.at y)
       (λ x y a. runs_alike n x y a) (next_alike x y a)
 
+-- at the start of the code no virtual register is live, and fixed registers agree
 start_places : (code : List PlainBlock) (at : ℕ → ℕ) (s t : State) → AreBehind code → StartAlike code s t → (r : Register)
     → IsLive code (Reg r) (record { block = 0; rest = instrs_at code 0 }) → s.place (InReg r) ≡ t.place (InReg (place_of at r))
 start_places code at s t behind a (Virt v) l = absurd (none_at_start code behind v 0 l)

@@ -52,6 +52,7 @@ module _ (m : Machine) (at : ℕ → ℕ) (code : List PlainBlock) where
   module _ (b : ℕ) (x : PlainInstr) (xs : List PlainInstr) (once : EndsOnce x) (clobbers : Bool) (s t : State) (c : Control) (to : goes s (ending_of x) ≡ Some c)
       (apart : (r : Register) → IsLive code (Reg r) (record { block = b; rest = xs }) → ApartFrom at r (written x))
       (keeps : IsLive code Cc (record { block = b; rest = xs }) → clobbers ≡ false) (a : Agree Next b (x ∷ xs) s t) where
+    -- what an instruction reads is live before it
     all_read : HoldsWhere at s t (reads x)
     all_read v e = a.live v refl (inr ([], e))
 
@@ -66,6 +67,7 @@ module _ (m : Machine) (at : ℕ → ℕ) (code : List PlainBlock) where
     symbol_after : (y : Sym) → (after s x).place (AtSym y) ≡ (after t (placed_instr at x)).place (AtSym y)
     symbol_after y = rw (symbol_stays y x, symbol_stays y (placed_instr at x)) (a.symbols y)
 
+    -- behind the instruction they agree on what is live there
     agree_after : Agree c b xs (after s x) (unless_clobbered clobbers (after t (placed_instr at x)))
     agree_after = record {
       memory = memory_placed at s t a.memory a.symbols x all_read;
@@ -108,6 +110,7 @@ module _ (m : Machine) (at : ℕ → ℕ) (code : List PlainBlock) where
         let both = h c refl in
         subst (λ d. Ended b e (and_on (in_turn []) (done_first (Some c))) (and_on (in_turn []) (done_placed (Some d)))) same (last_to c both.0 both.1)
 
+  -- an instruction has one transfer of control by both definitions
   controls_same : (x : PlainInstr) → control_of x ≡ ending_of x
   controls_same [] = refl
   controls_same (SetTo r t ∷ ms) = controls_same ms
@@ -127,6 +130,7 @@ module _ (m : Machine) (at : ℕ → ℕ) (code : List PlainBlock) where
   live_apart behind b set x xs h apart Rv l = tt
   live_apart behind b set x xs h apart (Arg k) l = tt
 
+  -- instructions one after another, from agreeing states
   pub block_ended : AreBehind code → (b : ℕ) (live : ℕ → Bool) (xs : List PlainInstr) (i : ℕ) (set : List ℕ) (s t : State)
       → EndsLast xs → All WellFormed xs → ReadsBehind set xs → PlacesApart set xs → KeepCc b live i xs → Agree Next b xs s t
       → Ended b (block_ending xs) (in_turn (map effect xs) s) (in_turn (placed_from m at live i xs) t)
