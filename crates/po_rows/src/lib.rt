@@ -6,3 +6,7 @@
 mod liveness;
 #[cfg(test)]
 mod naive;
+#[cfg(test)]
+mod runs;
+#[cfg(test)]
+mod slow;

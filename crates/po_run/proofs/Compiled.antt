@@ -1,5 +1,5 @@
 -- The steps of compiling, one after another.
-use Rattle.std.proofs.Common.{◌≡◌, ℕ, List, All, map, ap, sym, ◌∙◌, subst, Err}
+use Rattle.std.proofs.Common.{◌≡◌, ℕ, List, All, map, ap, ◌∙◌, subst, Err}
 use Rattle.std.specs.List.{AllZip}
 use Rattle.po_ir.specs.declared.unit.Unit.{Unit as StackUnit}
 use Rattle.po_model.specs.declared.code.UnitCode.{UnitCode}

@@ -17,7 +17,7 @@ use Rattle.po_run.specs.declared.status.Status.{Status}
 use Rattle.po_run.specs.declared.status.Status.TheVariants as status
 use Rattle.po_run.specs.Input.{Program, input_in, IsInput}
 use Rattle.po_run.specs.declared.mode.Mode.{Mode}
-use Rattle.po_run.specs.Modes.{IsMode, IsNoMode}
+use Rattle.po_run.specs.Modes.{IsNoMode}
 use Rattle.po_run.specs.Output.{FirstBad, Fits, HasRoom, HaveRoom, IsShort, HasUnfit, HasCrowd, naive_codes}
 use Rattle.po_run.specs.Statuses.{ReadsWhole, OnReadFault, OnBadText, OnUnrecognised, OnTooFew, OnWriteFault, IsComplete}
 use Rattle.po_run.proofs.Named.{same_mode}

@@ -1,11 +1,11 @@
 -- The mode that the words name.
-use Rattle.std.proofs.Common.{◌≡◌, ℕ, List, [], ◌∷◌, map, refl, sym, ◌∙◌, ap}
-use Rattle.std.specs.Prelude.{codes, string_bytes}
+use Rattle.std.proofs.Common.{◌≡◌, ℕ, List, [], ◌∷◌, refl, sym, ◌∙◌}
+use Rattle.std.specs.Prelude.{codes}
 use Rattle.std.specs.declared.string.String.{String}
 use Rattle.std.specs.declared.alloc.Global.{Global}
 use Rattle.po_run.specs.declared.mode.Mode.{Mode}
 use Rattle.po_run.specs.declared.mode.Mode.TheVariants.{Naive, Slow}
-use Rattle.po_run.specs.Modes.{word_of, IsMode, IsNoMode}
+use Rattle.po_run.specs.Modes.{word_of, IsMode}
 
 pub unnamed : (word : List ℕ) → (word ≡ codes "naive" → ⊥) → (word ≡ codes "slow" → ⊥) → (mode : Mode) → word ≡ word_of mode → ⊥
 unnamed word naive slow Naive e = naive e

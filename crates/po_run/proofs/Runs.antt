@@ -1,9 +1,8 @@
 -- The placed code of a unit runs as its naive code.
-use Rattle.std.proofs.Common.{◌≡◌, ℕ, zero, suc, List, [], ◌∷◌, length, map, All, Option, Some, None, refl, ap, sym, ◌∙◌, subst, arith}
-use Rattle.std.specs.Prelude.{get_or}
+use Rattle.std.proofs.Common.{ℕ, zero, suc, List, [], ◌∷◌, All, Option, Some, None, refl, sym, ◌∙◌, subst, arith}
 use Rattle.std.specs.List.{AllZip}
 use Rattle.po_term.specs.declared.term.Reg.{Reg as Register}
-use Rattle.po_term.specs.Terms.{InReg, AtSym, State}
+use Rattle.po_term.specs.Terms.{State}
 use Rattle.po_ir.specs.declared.unit.Unit.{Unit as StackUnit}
 use Rattle.po_model.specs.declared.machine.Machine.{Machine}
 use Rattle.po_model.specs.declared.var.Var.TheVariants.{Reg, Cc}
@@ -12,14 +11,16 @@ use Rattle.po_model.specs.Machines.{IsMachine}
 use Rattle.po_model.specs.Naive.{naive}
 use Rattle.po_model.specs.Run.{Run, Before, LiveWhere, StartAlike, Same, SameResult, ResultKept}
 use Rattle.po_model.specs.UnitCodes.{PlainUnit, IsUnitCode}
-use Rattle.po_slow.specs.Passes.{IsFormedCode, IsSlowedUnit, IsLiveAt}
+use Rattle.po_slow.specs.Passes.{IsSlowedUnit}
+use Rattle.po_slow.proofs.LivenessPasses.{make_nothing_live}
+use Rattle.po_slow.proofs.RunsPasses.{passes_keep_runs}
+use Rattle.po_assign.proofs.PlacedRuns.{placed_runs}
+use Rattle.po_expand.proofs.CcAtStarts.{cc_dead}
 use Rattle.po_run.specs.declared.mode.Mode.{Mode}
 use Rattle.po_run.specs.declared.mode.Mode.TheVariants.{Naive, Slow}
 use Rattle.po_run.specs.Modes.{IsCodeIn}
 use Rattle.po_run.specs.Output.{HasRoom, naive_codes}
 use Rattle.po_run.specs.Runs.{StartsAlike, RunsAs, RunsAsNaive}
-use Rattle.po_expand.proofs.CcAtStarts.{cc_dead}
-use Rattle.po_run.proofs.Laws.{make_nothing_live, keep_runs, placed_alike}
 use Rattle.po_run.proofs.Slowed.{unit_formed}
 
 -- what can't be told from y, which can't be told from z, can't be told from z
@@ -63,11 +64,11 @@ start_same code s t h = record {
 
 placed_so : (m : Machine) (u : PlainUnit) → IsUnitCode u → HasRoom m u → (LiveWhere u.code (Before 0) Cc → ⊥) → RunsAs m u.code u.code
 placed_so m u h room dead n s t replies live alike are tells =
-    placed_alike m u.code live h.ends_last h.formed h.straight room tells n s t replies (start_alike u.code s t dead alike) are
+    placed_runs m u.code live h.ends_last h.formed h.straight room tells n s t replies (start_alike u.code s t dead alike) are
 
 slowed_so : (m : Machine) (u v : PlainUnit) (tries : ℕ) → IsMachine m → IsSlowedUnit m u v tries → IsUnitCode u → RunsAs m v.code v.code → RunsAsNaive m u v
 slowed_so m u v tries is slowed h placed n s t replies live alike are tells =
-    result_chain v.code _ _ _ _ (keep_runs m u.code v.code slowed.pairs is (unit_formed u h) slowed.slowed h.straight n s s replies (start_same u.code s t alike) are) (placed n s t replies live alike are tells)
+    result_chain v.code _ _ _ _ (passes_keep_runs m u.code v.code slowed.pairs is (unit_formed u h) slowed.slowed h.straight n s s replies (start_same u.code s t alike) are) (placed n s t replies live alike are tells)
 
 -- a code that the mode makes of a code at whose start cc isn't live
 code_runs : (mode : Mode) (m : Machine) (u v : PlainUnit) → IsMachine m → IsCodeIn mode m u v → (LiveWhere u.code (Before 0) Cc → ⊥) → IsUnitCode u → IsUnitCode v → HasRoom m v → RunsAsNaive m u v

@@ -1,20 +1,21 @@
 -- All units go through all passes, one after another; and what is so of the codes that a mode makes.
-use Rattle.std.proofs.Common.{◌≡◌, ℕ, zero, suc, ◌+◌, ◌≤◌, ◌<◌, ◌^◌, List, [], ◌∷◌, ◌++◌, length, map, All, refl, ap, sym, ◌∙◌, subst, arith, append_assoc, append-nil}
+use Rattle.std.proofs.Common.{◌≡◌, ℕ, zero, suc, List, [], ◌∷◌, ◌++◌, length, map, All, refl, ap, sym, ◌∙◌, subst, arith, append_assoc, append-nil}
 use Rattle.std.proofs.lemmas.List.{length-map}
 use Rattle.std.specs.List.{AllZip}
 use Rattle.po_model.specs.declared.code.UnitCode.{UnitCode}
 use Rattle.po_model.specs.declared.machine.Machine.{Machine}
 use Rattle.po_model.specs.Blocks.{PlainBlock}
 use Rattle.po_model.specs.Machines.{IsMachine}
-use Rattle.po_model.specs.UnitCodes.{PlainUnit, unit_of, flat, IsUnitCode, IsNamedBlock}
+use Rattle.po_model.specs.UnitCodes.{PlainUnit, unit_of, IsUnitCode}
 use Rattle.po_slow.specs.Passes.{IsFormedCode, IsSlowedUnit, KeepsForm}
+use Rattle.po_slow.proofs.KeptForm.{form_kept}
+use Rattle.po_slow.proofs.LivenessPasses.{keep_fit}
 use Rattle.po_run.specs.declared.mode.Mode.{Mode}
 use Rattle.po_run.specs.declared.mode.Mode.TheVariants.{Naive, Slow}
 use Rattle.po_run.specs.Modes.{IsCodeIn}
 use Rattle.po_run.specs.Output.{Fits}
 use Rattle.po_run.specs.Steps.{units_of}
 use Rattle.po_run.proofs.Each.{all_cons}
-use Rattle.po_run.proofs.Laws.{keep_form, keep_fit}
 use Rattle.po_run.proofs.Written.{units_append}
 
 -- the units so far went through all passes, and these are left
@@ -82,7 +83,7 @@ same_blocks xs ys e = sym (length-map xs (λ b. b.label)) ∙ ap length e ∙ le
 
 slowed_formed : (m : Machine) (u v : PlainUnit) (tries : ℕ) → IsMachine m → IsSlowedUnit m u v tries → IsUnitCode u → IsUnitCode v
 slowed_formed m u v tries is s h =
-    let keeps : KeepsForm m u.code v.code = keep_form m u.code v.code s.pairs is (unit_formed u h) s.slowed in
+    let keeps : KeepsForm m u.code v.code = form_kept m u.code v.code s.pairs is (unit_formed u h) s.slowed in
     let blocks : length v.code ≡ length u.code = same_blocks v.code u.code keeps.labels in
     record {
       ends_last = keeps.formed.ends_last;

@@ -1,5 +1,5 @@
 -- What each status of the top call says of the source, the sink and the text.
-use Rattle.std.specs.Prelude.{ℕ, ◌-◌, ◌^◌, ◌≤◌, ◌<◌, ◌≡◌, List, [], ◌∷◌, length, take, map, codes, All, Option, Some, Result, Ok, Err, IfSome, string_bytes, ⊤}
+use Rattle.std.specs.Prelude.{ℕ, ◌-◌, ◌^◌, ◌≤◌, ◌<◌, ◌≡◌, List, [], length, take, All, Option, Some, Result, Ok, Err, IfSome, ⊤}
 use Rattle.std.specs.declared.string.String.{String}
 use Rattle.std.specs.declared.vec.Vec.{Vec}
 use Rattle.std.specs.declared.alloc.Global.{Global}

@@ -1,6 +1,5 @@
 use Rattle.std.proofs.Common.{sym, subst}
 use Rattle.std.specs.List.{AllZip}
-use Rattle.po_model.specs.UnitCodes.{PlainUnit}
 use Rattle.po_run.specs.declared.mode.Mode.{Mode}
 use Rattle.po_run.specs.declared.mode.Mode.TheVariants.{Slow}
 use Rattle.po_run.specs.Modes.{IsCodeIn}
