@@ -20,11 +20,11 @@ adl 4\nlod\nret\nend\n";
 
 const SUM_ASSEMBLY: &str = "\
 sum:\n  lea r0,3\n  li r1,0\n  st r1,(r0)\n  lea r0,4\n  li r1,0\n  st r1,(r0)\n\
-sum.top:\n  ld r0,3(fp)\n  ld r1,1(fp)\n  cmp r0,r1\n  bge sum.out\n\
-  lea r0,4\n  ld r1,4(fp)\n  ld r2,2(fp)\n  ld r3,3(fp)\n  add r2,r2,r3\n  ld r2,(r2)\n  add r1,r1,r2\n  st r1,(r0)\n\
-  lea r0,3\n  ld r1,3(fp)\n  addi r1,r1,1\n  st r1,(r0)\n  jmp sum.top\n\
-sum.out:\n  la r0,calls\n  la r1,calls\n  ld r1,(r1)\n  addi r1,r1,1\n  st r1,(r0)\n\
-  ld a0,4(fp)\n  call note\n  ld rv,4(fp)\n  ret\n";
+sum.top:\n  ld r0,3(fp)\n  ld r1,1(fp)\n  cmp r0,r1\n  bge sum.out\
+\n  lea r0,4\n  ld r1,4(fp)\n  ld r2,2(fp)\n  ld r3,3(fp)\n  add r2,r2,r3\n  ld r2,(r2)\n  add r1,r1,r2\n  st r1,(r0)\
+\n  lea r0,3\n  ld r1,3(fp)\n  addi r1,r1,1\n  st r1,(r0)\n  jmp sum.top\n\
+sum.out:\n  la r0,calls\n  la r1,calls\n  ld r1,(r1)\n  addi r1,r1,1\n  st r1,(r0)\
+\n  ld a0,4(fp)\n  call note\n  ld rv,4(fp)\n  ret\n";
 
 const FIVE_VALUES: &str = "\
 unit e\ncon 0\nret\nend\n\
