@@ -9,7 +9,6 @@ pub mod Distinct
 pub mod Virtuals
 pub mod Straight
 pub mod LivenessEndings
-pub mod LivenessPairs
 pub mod LivenessFlow
 pub mod LivenessPass
 pub mod LivenessCode
