@@ -7,3 +7,12 @@ pub mod Apart
 pub mod Formed
 pub mod Small
 pub mod Straight
+pub mod Boundary
+pub mod PlacedReads
+pub mod Controls
+pub mod PlacedSteps
+pub mod PlacedLeaving
+pub mod Clobbered
+pub mod MachineRegisters
+pub mod PlacedBlocks
+pub mod PlacedRuns

@@ -3,9 +3,11 @@
 //! `reads` finds the last read of each register, `spans` the interval of each in order, and `place` gives each interval the lowest free
 //! machine register, or finds the first crowded point. Instruction p of the code reads at the point 2 * p and writes at the point
 //! 2 * p + 1. Each of the three goes once over the code or over the intervals. `unit` does them one after another.
+//! `laws` says that placed code does what the code does.
 #![tactic(auto)]
 
 mod answer;
+mod laws;
 mod place;
 mod reads;
 mod spans;
@@ -14,4 +16,5 @@ mod tests;
 mod unit;
 
 pub use answer::{AssignRefusal, Placed};
+pub use laws::placed_runs_alike;
 pub use unit::{assign, never_shared};

@@ -13,7 +13,7 @@ ghost use Rattle.po_term.specs.declared.transfer.Instr.{Instr as InstrValue};
 use self::Step::{Both, Con, Load, Move, Ret, Sum};
 use crate::place::Placing;
 use crate::unit::place_code;
-use crate::{assign, never_shared};
+use crate::{assign, never_shared, placed_runs_alike};
 use po_model::{Block, Code, Machine, UnitCode};
 use po_name::Name;
 use po_term::{Instr, Reg, Term, Transfer};
@@ -320,5 +320,6 @@ fn assigned(rt: HostRuntime) -> Result<(), Fail> {
         Err(_) => assert!(rt; false),
     }
     never_shared();
+    placed_runs_alike();
     Ok(())
 }
