@@ -4,6 +4,7 @@
 #![tactic(auto)]
 
 mod laws;
+mod live;
 #[cfg(test)]
 mod machine;
 mod pair;
