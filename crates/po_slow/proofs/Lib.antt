@@ -1,4 +1,5 @@
 pub mod Sound
 pub mod Passes
 pub mod Places
+pub mod Standing
 pub mod Targets

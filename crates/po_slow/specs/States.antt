@@ -9,7 +9,7 @@ use Rattle.po_model.specs.Blocks.{PlainInstr, PlainBlock, code_of, instrs_at, en
 use Rattle.po_model.specs.LiveSets.{holds_at, lives_at}
 use Rattle.po_model.specs.Pairs.{PlainPair, pair_of, WellFormedPair}
 use Rattle.po_model.specs.Combined.{Kept, Gone, AsOne}
-use Rattle.po_model.specs.Scanned.{Answer, Stand, InBlock, Scan, Within, Finished, instrs_ahead, blocks_ahead, ready, pair_ready}
+use Rattle.po_model.specs.Scanned.{Answer, Ahead, Stand, InBlock, Scan, Within, Finished, instrs_ahead, blocks_ahead, ready, pair_ready}
 use Rattle.po_slow.specs.declared.state.Ask.{Ask}
 use Rattle.po_slow.specs.declared.state.Ask.TheVariants as ask
 use Rattle.po_slow.specs.declared.state.ScanState.{ScanState}
@@ -20,6 +20,15 @@ use Rattle.po_slow.specs.Passes.{IsFormedCode}
 -- where the scan of a block stands whose first instructions are done and that goes on at the place `next`
 abbrev pub stand_at : List PlainInstr → (ℕ → Var → Bool) → ℕ → ℕ → Bool → Stand
 stand_at xs live done next changed = record { done = reverse (take done xs); rest = instrs_ahead live next (drop next xs); changed = changed }
+
+-- on from there
+abbrev pub on : (List PlainInstr → List Ahead → Bool → Stand) → Stand → Stand
+on f s = f s.done s.rest s.changed
+
+-- the next instruction is done
+abbrev pub take_next : List PlainInstr → List Ahead → Bool → Stand
+take_next done [] changed = record { done = done; rest = []; changed = changed }
+take_next done (x ∷ xs) changed = record { done = x.instr ∷ done; rest = xs; changed = changed }
 
 -- where the scan of a code stands in the first of these blocks, the b-th of the code; at the finish where there is none
 abbrev pub place_in : (ℕ → ℕ → Var → Bool) → ℕ → ℕ → ℕ → Bool → List PlainBlock → List PlainBlock → Scan

@@ -3,6 +3,7 @@
 //! `pair` answers for one pair: the two are joined (`po_subst`), and the joint list has to fit an entry of the machine (`po_recog`).
 #![tactic(auto)]
 
+mod block;
 mod laws;
 mod live;
 #[cfg(test)]
