@@ -4,11 +4,12 @@
 -- between them is left over.
 use Rattle.std.specs.Prelude.{ℕ, suc, ◌≡◌, ◌≤◌, Bool, List, [], ◌∷◌, ◌++◌, map, reverse, take, drop, length, All, Option, Some, None, ⊤}
 use Rattle.po_term.specs.Form.{WellFormed}
+use Rattle.po_model.specs.declared.machine.Machine.{Machine}
 use Rattle.po_model.specs.declared.var.Var.{Var}
 use Rattle.po_model.specs.Blocks.{PlainInstr, PlainBlock, code_of, instrs_at, ending_of, EndsLast}
 use Rattle.po_model.specs.LiveSets.{holds_at, lives_at}
 use Rattle.po_model.specs.Pairs.{PlainPair, pair_of, WellFormedPair}
-use Rattle.po_model.specs.Combined.{Kept, Gone, AsOne}
+use Rattle.po_model.specs.Combined.{Kept, Gone, AsOne, combination}
 use Rattle.po_model.specs.Scanned.{Answer, Ahead, Stand, InBlock, Scan, Within, Finished, instrs_ahead, blocks_ahead, ready, pair_ready}
 use Rattle.po_slow.specs.declared.state.Ask.{Ask}
 use Rattle.po_slow.specs.declared.state.Ask.TheVariants as ask
@@ -67,6 +68,11 @@ CanAnswer None o = ⊥
 CanAnswer (Some p) Kept = ⊤
 CanAnswer (Some p) Gone = ⊤
 CanAnswer (Some p) (AsOne y) = WellFormed y × (ending_of p.b ≡ None → ending_of y ≡ None)
+
+-- the answer of slow combination for the pair that is ready
+abbrev pub IsAnswer : Machine → Option PlainPair → Answer → Type 0
+IsAnswer m None o = ⊥
+IsAnswer m (Some p) o = o ≡ combination m p
 
 -- What every ScanState has
 

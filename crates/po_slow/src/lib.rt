@@ -9,6 +9,7 @@ mod live;
 #[cfg(test)]
 mod machine;
 mod pair;
+mod ready;
 mod state;
 #[cfg(test)]
 mod tests;
