@@ -3,3 +3,4 @@ pub mod Passes
 pub mod Places
 pub mod Standing
 pub mod Targets
+pub mod Written

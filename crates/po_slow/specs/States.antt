@@ -2,8 +2,10 @@
 --
 -- A block is scanned in place: its first instructions are those that are done, its last ones those that are to come, and what lies
 -- between them is left over.
-use Rattle.std.specs.Prelude.{ℕ, suc, ◌≡◌, ◌≤◌, Bool, List, [], ◌∷◌, ◌++◌, map, reverse, take, drop, length, All, Option, Some, None, ⊤}
+use Rattle.std.specs.Prelude.{ℕ, suc, ◌≡◌, ◌≤◌, ◌<◌, Bool, List, [], ◌∷◌, ◌++◌, map, reverse, take, drop, length, All, Option, Some, None, ⊤}
+use Rattle.std.specs.Global.{Vec}
 use Rattle.po_term.specs.Form.{WellFormed}
+use Rattle.po_model.specs.declared.pair.Live.{Live}
 use Rattle.po_model.specs.declared.machine.Machine.{Machine}
 use Rattle.po_model.specs.declared.var.Var.{Var}
 use Rattle.po_model.specs.Blocks.{PlainInstr, PlainBlock, code_of, instrs_at, ending_of, EndsLast}
@@ -11,6 +13,7 @@ use Rattle.po_model.specs.LiveSets.{holds_at, lives_at}
 use Rattle.po_model.specs.Pairs.{PlainPair, pair_of, WellFormedPair}
 use Rattle.po_model.specs.Combined.{Kept, Gone, AsOne, combination}
 use Rattle.po_model.specs.Scanned.{Answer, Ahead, Stand, InBlock, Scan, Within, Finished, instrs_ahead, blocks_ahead, ready, pair_ready}
+use Rattle.po_slow.specs.declared.block.Standing.{Standing}
 use Rattle.po_slow.specs.declared.state.Ask.{Ask}
 use Rattle.po_slow.specs.declared.state.Ask.TheVariants as ask
 use Rattle.po_slow.specs.declared.state.ScanState.{ScanState}
@@ -40,9 +43,22 @@ place_in live b done next changed passed (x ∷ xs) = Within (record { label = x
 abbrev pub place_at : List PlainBlock → (ℕ → ℕ → Var → Bool) → ℕ → ℕ → ℕ → Bool → Scan
 place_at code live b done next changed = place_in live b done next changed (reverse (take b code)) (drop b code)
 
+-- what is live by these sets
+abbrev pub told : List (Vec Live) → ℕ → ℕ → Var → Bool
+told lives b = holds_at (lives_at lives b)
+
+-- where it stands in the b-th block, with these live sets
+abbrev pub place_of : List PlainBlock → List (Vec Live) → ℕ → Standing → Scan
+place_of code lives b at = place_at code (told lives) b at.done at.next at.changed
+
 -- where the scan of a ScanState stands
 abbrev pub scan_of : ScanState → Scan
-scan_of s = place_at (code_of s.code) (λ b. holds_at (lives_at s.lives.after.items b)) s.block s.at.done s.at.next s.at.changed
+scan_of s = place_of (code_of s.code) s.lives.after.items s.block s.at
+
+-- on within the block
+abbrev pub within : (Stand → Stand) → Scan → Scan
+within f (Within s) = Within (record { label = s.label; stand = f s.stand; passed = s.passed; coming = s.coming })
+within f (Finished code) = Finished code
 
 -- What is asked
 
@@ -97,10 +113,19 @@ IsFormedScan (Within s) = IsFormedBlock s
 IsFormedScan (Finished code) = IsFormedCode code
 
 -- the scan stands within the code, and there is a live set for each instruction of the block and of those to come
+pub record IsPlaced (code : List PlainBlock) (lives : List (Vec Live)) (b : ℕ) (at : Standing) : Type 0 where
+  pub blocks : b ≤ length code
+  pub sets : length lives ≡ length code
+  pub lengths : (c : ℕ) → b ≤ c → length (lives_at lives c) ≡ length (instrs_at code c)
+  pub done : at.done ≤ at.next
+  pub next : at.next ≤ length (instrs_at code b)
+
+-- a pair is ready in the b-th block
+pub record HasPair (code : List PlainBlock) (b : ℕ) (at : Standing) : Type 0 where
+  pub block : b < length code
+  pub done : 0 < at.done
+  pub next : at.next < length (instrs_at code b)
+
 pub record IsFormedState (s : ScanState) : Type 0 where
-  pub blocks : s.block ≤ length (code_of s.code)
-  pub sets : length s.lives.after.items ≡ length (code_of s.code)
-  pub lives : (b : ℕ) → s.block ≤ b → length (lives_at s.lives.after.items b) ≡ length (instrs_at (code_of s.code) b)
-  pub done : s.at.done ≤ s.at.next
-  pub next : s.at.next ≤ length (instrs_at (code_of s.code) s.block)
-  pub scan : IsFormedScan (scan_of s)
+  pub placed : IsPlaced (code_of s.code) s.lives.after.items s.block s.at
+  pub formed : IsFormedScan (scan_of s)

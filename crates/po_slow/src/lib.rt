@@ -14,6 +14,7 @@ mod state;
 #[cfg(test)]
 mod tests;
 mod unit;
+mod within;
 
 pub use laws::combination_keeps_effect;
 pub use pair::slow_pair;
