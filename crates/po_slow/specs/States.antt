@@ -12,7 +12,7 @@ use Rattle.po_model.specs.Blocks.{PlainInstr, PlainBlock, code_of, instrs_at, en
 use Rattle.po_model.specs.LiveSets.{holds_at, lives_at}
 use Rattle.po_model.specs.Pairs.{PlainPair, pair_of, WellFormedPair}
 use Rattle.po_model.specs.Combined.{Kept, Gone, AsOne, combination}
-use Rattle.po_model.specs.Scanned.{Answer, Ahead, Stand, InBlock, Scan, Within, Finished, instrs_ahead, blocks_ahead, ready, pair_ready}
+use Rattle.po_model.specs.Scanned.{Answer, Ahead, Stand, InBlock, Scan, Within, Finished, instrs_ahead, blocks_ahead, ready, settled, pair_ready, after_try}
 use Rattle.po_slow.specs.declared.block.Standing.{Standing}
 use Rattle.po_slow.specs.declared.state.Ask.{Ask}
 use Rattle.po_slow.specs.declared.state.Ask.TheVariants as ask
@@ -89,6 +89,18 @@ CanAnswer (Some p) (AsOne y) = WellFormed y × (ending_of p.b ≡ None → endin
 abbrev pub IsAnswer : Machine → Option PlainPair → Answer → Type 0
 IsAnswer m None o = ⊥
 IsAnswer m (Some p) o = o ≡ combination m p
+
+-- the pair that is ready was tried, within a block
+pub record IsTriedIn (m : Machine) (s t : Stand) : Type 0 where
+  pub outcome : Answer
+  pub is_answer : IsAnswer m (ready s.done s.rest) outcome
+  pub goes_on : t ≡ on (settled outcome) s
+
+-- the pair that is ready was tried
+pub record IsTried (m : Machine) (s t : Scan) : Type 0 where
+  pub outcome : Answer
+  pub is_answer : IsAnswer m (pair_ready s) outcome
+  pub goes_on : t ≡ after_try outcome s
 
 -- What every ScanState has
 

@@ -1,14 +1,13 @@
 //! The pair that is ready within a block: the last instruction that is done, and the next one.
-ghost use Rattle.std.specs.Prelude.{ℕ, ◌≡◌, ◌<◌, ◌≤◌, ◌+◌, ◌-◌, ◌^◌, length, reverse, take, drop, Some, IfOk, OnErr, slice_set, slice_index_or};
-ghost use Rattle.po_term.specs.Moves.{instr_of, instrs_of};
-ghost use Rattle.po_term.specs.declared.transfer.Instr.{Instr as Instruction};
+ghost use Rattle.std.specs.Prelude.{ℕ, ◌≡◌, ◌<◌, ◌≤◌, ◌+◌, ◌-◌, ◌^◌, length, reverse, take, drop, Some, IfOk, OnOk, OnErr, slice_set, slice_index_or};
+ghost use Rattle.po_term.specs.Moves.{instrs_of};
 ghost use Rattle.po_model.specs.LiveSets.{holds_at};
 ghost use Rattle.po_model.specs.Pairs.{pair_of};
 ghost use Rattle.po_model.specs.Combined.{combination_of};
 ghost use Rattle.po_model.specs.Scanned.{instrs_ahead, ready};
-ghost use Rattle.po_slow.specs.States.{IsAnswer};
+ghost use Rattle.po_slow.specs.States.{stand_at, IsAnswer, IsTriedIn};
 
-use crate::block::{Standing, take_out};
+use crate::block::{Standing, settle, take_out};
 use crate::live::pair_live;
 use crate::pair::slow_pair;
 use po_model::{Live, Machine, Outcome, Pair, Steps};
@@ -71,8 +70,8 @@ fn put_back(xs: &mut [Instr], at: Standing, p: Pair)
     xs[at.next] = b;
 }
 
-/// What becomes of the pair that is ready. The block stays as it is.
-pub fn try_pair<L: Ledger>(
+/// What becomes of the pair that is ready. The block stays as it is. A step is counted.
+fn outcome<L: Ledger>(
     alloc: Global,
     m: &Machine,
     xs: &mut [Instr],
@@ -93,4 +92,29 @@ pub fn try_pair<L: Ledger>(
     let outcome = slow_pair(alloc, m, &p, steps);
     put_back(xs, at, p);
     outcome
+}
+
+/// Tries the pair that is ready, and goes on from it. A step is counted.
+pub fn try_pair<L: Ledger>(
+    alloc: Global,
+    m: &Machine,
+    xs: &mut [Instr],
+    lives: &[Live],
+    at: &mut Standing,
+    steps: &mut Steps<L>,
+) -> Result<(), OutOfMemory>
+    requires entries { length m.now.entries < 2 ^ 32 }
+    requires some { 0 < at.old.done }
+    requires order { at.old.done ≤ at.old.next }
+    requires inside { at.old.next < length xs.old }
+    requires lives { length xs.old ≤ length lives.now }
+    ensures tried { OnOk result (IsTriedIn m.now (stand_at (instrs_of xs.old) (holds_at lives.now) at.old.done at.old.next at.old.changed)
+        (stand_at (instrs_of xs.new) (holds_at lives.now) at.new.done at.new.next at.new.changed)) }
+    ensures order { at.new.done ≤ at.new.next }
+    ensures inside { at.new.next ≤ length xs.new }
+    ensures counted { OnOk result (steps.new ≡ steps.old + 1) }
+{
+    let o = outcome(alloc, m, xs, lives, *at, steps)?;
+    settle(alloc, xs, lives, at, o);
+    Ok(())
 }

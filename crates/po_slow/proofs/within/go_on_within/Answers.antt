@@ -16,9 +16,9 @@ go_on-requires-clause-lives c =
 pub returns-clause-place : goal.returns-clause-place
 returns-clause-place c =
     place_written c.args.blocks.now c.args.lives.now c.args.b c.index-blocks-b.result c.index-lives-b.result c.go_on.new.xs c.deref_mut.result.now c.deref.result.now c.args.at.now c.go_on.new.at (on onward)
-      c.requires.block c.go_on.auto.xs c.deref_mut.ensures.value (c.deref.ensures.value ∙ ap (λ v. v.items) c.index-lives-b.is) c.requires.placed c.go_on.ensures.onward
+    c.requires.block c.go_on.auto.xs c.deref_mut.ensures.value (c.deref.ensures.value ∙ ap (λ v. v.items) c.index-lives-b.is) c.requires.placed c.go_on.ensures.onward
 
 pub returns-clause-placed : goal.returns-clause-placed
 returns-clause-placed c =
     placed_written c.args.blocks.now c.args.lives.now c.args.b c.index-blocks-b.result c.index-lives-b.result c.go_on.new.xs c.deref_mut.result.now c.args.at.now c.go_on.new.at
-      c.requires.block c.go_on.auto.xs c.deref_mut.ensures.value c.requires.placed c.go_on.ensures.order c.go_on.ensures.inside
+    c.requires.block c.go_on.auto.xs c.deref_mut.ensures.value c.requires.placed c.go_on.ensures.order c.go_on.ensures.inside
