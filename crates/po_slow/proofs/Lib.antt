@@ -24,3 +24,6 @@ pub mod Places
 pub mod LivenessLast
 pub mod LivenessPasses
 pub mod KeptForm
+pub mod Standing
+pub mod Targets
+pub mod Written
