@@ -8,3 +8,4 @@ pub mod Places
 pub mod Sound
 pub mod Pieces
 pub mod Codes
+pub mod CcAtStarts

@@ -8,3 +8,7 @@ mod liveness;
 mod naive;
 #[cfg(test)]
 mod passes;
+#[cfg(test)]
+mod runs;
+#[cfg(test)]
+mod slow;

@@ -1,9 +1,9 @@
 //! The mode `naive`. The lines of `TINY` are 1 to 30, so a unit behind it begins in line 31.
 
+use crate::runs::{GOOD, Streams, push_times, run, text_of};
 use po_mdread::TINY;
-use po_run::{Status, po_serial};
-use po_text::{Kind, MemSink, MemSource};
-use std::alloc::Global;
+use po_run::Status;
+use po_text::Kind;
 use std::test::Fail;
 
 const HEAD: &str = "machine tiny\nframe fp\nresult rv\nargs a0 a1 a2 a3\nregs r0 r1 r2 r3\n";
@@ -58,57 +58,6 @@ end\n\
 ";
 
 const LOAD_AND_ADD: &str = "unit f\nadl 4\nlod\ncon 1\nadd\nret\nend\n";
-
-/// How the streams behave: how many bytes a call moves, the calls of each that fail, and the sink's room.
-#[derive(Clone, Copy, Debug)]
-struct Streams {
-    most: usize,
-    read_fails: u64,
-    write_fails: u64,
-    room: usize,
-}
-
-const GOOD: Streams = Streams {
-    most: 100,
-    read_fails: 0,
-    write_fails: 0,
-    room: 1000,
-};
-
-/// What a run ended with, what its sink kept, and what was told.
-#[derive(Drop)]
-struct Ended {
-    status: Status,
-    sink: MemSink,
-    notes: MemSink,
-}
-
-fn text_of(alloc: Global, parts: &[&str]) -> Result<Vec<u8>, Fail> {
-    let mut text = Vec::new(alloc);
-    for part in parts {
-        text.extend_from_slice(part.as_bytes())?;
-    }
-    Ok(text)
-}
-
-fn run(alloc: Global, word: &str, text: Vec<u8>, streams: &Streams) -> Result<Ended, Fail> {
-    let words = vec![in alloc; String::from_str(alloc, word)?]?;
-    let most = streams.most.max(1);
-    let mut source = MemSource::new(text, most, vec![in alloc; streams.read_fails]?);
-    let mut sink = MemSink::new(
-        alloc,
-        most,
-        vec![in alloc; streams.write_fails]?,
-        streams.room,
-    )?;
-    let mut notes = MemSink::new(alloc, 100, Vec::new(alloc), 1000)?;
-    let status = po_serial(alloc, &words, &mut source, &mut sink, &mut notes);
-    Ok(Ended {
-        status,
-        sink,
-        notes,
-    })
-}
 
 /// An input that compiles, and its assembly.
 const COMPILES: [([&str; 3], &str); 9] = [
@@ -361,7 +310,6 @@ fn fails(rt: HostRuntime) -> Result<(), Fail> {
     let rows = [
         ("", &GOOD, usage, ""),
         ("fast", &GOOD, usage, ""),
-        ("slow", &GOOD, usage, ""),
         (
             "naive",
             &slow_sink,
@@ -402,13 +350,6 @@ fn is_too_long(rt: HostRuntime) -> Result<(), Fail> {
         kind: Kind::TooMany,
     };
     assert_eq!(rt; ended.status, too_long);
-    Ok(())
-}
-
-fn push_times(text: &mut Vec<u8>, part: &str, times: u32) -> Result<(), Fail> {
-    for _ in 0..times {
-        text.extend_from_slice(part.as_bytes())?;
-    }
     Ok(())
 }
 

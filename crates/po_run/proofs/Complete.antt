@@ -16,8 +16,11 @@ use Rattle.po_model.specs.Fitted.{IsUnrecognised, instr_at}
 use Rattle.po_run.specs.declared.status.Status.{Status}
 use Rattle.po_run.specs.declared.status.Status.TheVariants as status
 use Rattle.po_run.specs.Input.{Program, input_in, IsInput}
-use Rattle.po_run.specs.Output.{FirstBad, Fits, HasRoom, IsShort, HasUnfit, HasCrowd, naive_codes}
-use Rattle.po_run.specs.Statuses.{IsNaive, ReadsWhole, OnReadFault, OnBadText, OnUnrecognised, OnTooFew, OnWriteFault, IsComplete}
+use Rattle.po_run.specs.declared.mode.Mode.{Mode}
+use Rattle.po_run.specs.Modes.{IsNoMode}
+use Rattle.po_run.specs.Output.{FirstBad, Fits, HasRoom, HaveRoom, IsShort, HasUnfit, HasCrowd, naive_codes}
+use Rattle.po_run.specs.Statuses.{ReadsWhole, OnReadFault, OnBadText, OnUnrecognised, OnTooFew, OnWriteFault, IsComplete}
+use Rattle.po_run.proofs.Named.{same_mode}
 
 calm_not_rose : (before now : ℕ) → now ≡ before → before < 2 ^ 64 - 1 → Rose before now → ⊥
 calm_not_rose before now e small rose = grind arith
@@ -86,11 +89,11 @@ not_unfit text m us n b i is fits unfit =
     let here : All (Fits unfit.0) (naive_codes unfit.1) = subst (λ (m : Machine). All (Fits m) (naive_codes unfit.1)) same.0 (subst (λ (us : List StackUnit). All (Fits m) (naive_codes us)) same.1 fits) in
     all_not_bad (Fits unfit.0) (λ u. IsUnrecognised u.code unfit.0 b i) (naive_codes unfit.1) n (fits_or_not unfit.0 b i) here unfit.3
 
-not_crowded : (text : List ℕ) (m : Machine) (us : List StackUnit) (n point needed : ℕ) → IsInput text m us → All (HasRoom m) (naive_codes us) → HasCrowd text n point needed → ⊥
-not_crowded text m us n point needed is room crowd =
+not_crowded : (mode : Mode) (text : List ℕ) (m : Machine) (us : List StackUnit) (n point needed : ℕ) → IsInput text m us → HaveRoom mode m us → HasCrowd mode text n point needed → ⊥
+not_crowded mode text m us n point needed is room crowd =
     let same = same_input text m crowd.0 us crowd.1 is crowd.2 in
-    let here : All (HasRoom crowd.0) (naive_codes crowd.1) = subst (λ (m : Machine). All (HasRoom m) (naive_codes crowd.1)) same.0 (subst (λ (us : List StackUnit). All (HasRoom m) (naive_codes us)) same.1 room) in
-    all_not_bad (HasRoom crowd.0) (IsShort crowd.0 point needed) (naive_codes crowd.1) n (room_or_not crowd.0 point needed) here crowd.4
+    let here : HaveRoom mode crowd.0 crowd.1 = subst (λ (m : Machine). HaveRoom mode m crowd.1) same.0 (subst (λ (us : List StackUnit). HaveRoom mode m us) same.1 room) in
+    all_not_bad (HasRoom crowd.0) (IsShort crowd.0 point needed) crowd.3.made n (room_or_not crowd.0 point needed) (here crowd.3.made crowd.3.codes) crowd.3.crowded
 
 not_bad : (text : List ℕ) (m : Machine) (us : List StackUnit) (line col : ℕ) (kind : Kind) (old new : Option (List ℕ)) → old ≡ Some text → length text ≤ 4194304 → IsInput text m us → OnBadText (status.BadText line col kind) old new → ⊥
 not_bad text m us line col kind old new e fits is (inl read) =
@@ -99,14 +102,14 @@ not_bad text m us line col kind old new e fits is (inl read) =
 not_bad text m us line col kind old new e fits is (inr long) = too_long new text long.0 (sym e ∙ long.3) fits long.2
 
 pub complete : (words : List (String Global)) (s : Status) (old new kept_old kept_new : Option (List ℕ)) (before now before_written now_written : ℕ)
-    → ((s ≡ status.Usage) ↔ (IsNaive words → ⊥)) → OnReadFault s before now → OnBadText s old new → OnUnrecognised s old new → OnTooFew s old new
-    → OnWriteFault s old new before_written now_written kept_old kept_new
+    → ((s ≡ status.Usage) ↔ IsNoMode words) → OnReadFault s before now → OnBadText s old new → OnUnrecognised s old new → OnTooFew words s old new
+    → OnWriteFault words s old new before_written now_written kept_old kept_new
     → IsComplete words s old before now before_written now_written
-complete words status.Done old new ko kn b n bw nw usage fault bad unfit few wrote text m us naive told fits is recognised room calm small calm_sink small_sink = tt
-complete words status.OutOfMemory old new ko kn b n bw nw usage fault bad unfit few wrote text m us naive told fits is recognised room calm small calm_sink small_sink = tt
-complete words status.Usage old new ko kn b n bw nw usage fault bad unfit few wrote text m us naive told fits is recognised room calm small calm_sink small_sink = usage.0 refl naive
-complete words status.ReadFault old new ko kn b n bw nw usage fault bad unfit few wrote text m us naive told fits is recognised room calm small calm_sink small_sink = calm_not_rose b n calm small fault.1
-complete words (status.BadText line col kind) old new ko kn b n bw nw usage fault bad unfit few wrote text m us naive told fits is recognised room calm small calm_sink small_sink = not_bad text m us line col kind old new told fits is bad
-complete words (status.Unrecognised unit block index) old new ko kn b n bw nw usage fault bad unfit few wrote text m us naive told fits is recognised room calm small calm_sink small_sink = not_unfit text m us unit block index is recognised (subst (λ (t : List ℕ). HasUnfit t unit block index) (same_text old new text unfit.0 told unfit.1) unfit.2)
-complete words (status.TooFew unit point needed) old new ko kn b n bw nw usage fault bad unfit few wrote text m us naive told fits is recognised room calm small calm_sink small_sink = not_crowded text m us unit point needed is room (subst (λ (t : List ℕ). HasCrowd t unit point needed) (same_text old new text few.0 told few.1) few.2)
-complete words (status.WriteFault written) old new ko kn b n bw nw usage fault bad unfit few wrote text m us naive told fits is recognised room calm small calm_sink small_sink = calm_not_rose bw nw calm_sink small_sink wrote.7
+complete words status.Done old new ko kn b n bw nw usage fault bad unfit few wrote mode text m us named told fits is recognised room calm small calm_sink small_sink = tt
+complete words status.OutOfMemory old new ko kn b n bw nw usage fault bad unfit few wrote mode text m us named told fits is recognised room calm small calm_sink small_sink = tt
+complete words status.Usage old new ko kn b n bw nw usage fault bad unfit few wrote mode text m us named told fits is recognised room calm small calm_sink small_sink = usage.0 refl mode named
+complete words status.ReadFault old new ko kn b n bw nw usage fault bad unfit few wrote mode text m us named told fits is recognised room calm small calm_sink small_sink = calm_not_rose b n calm small fault.1
+complete words (status.BadText line col kind) old new ko kn b n bw nw usage fault bad unfit few wrote mode text m us named told fits is recognised room calm small calm_sink small_sink = not_bad text m us line col kind old new told fits is bad
+complete words (status.Unrecognised unit block index) old new ko kn b n bw nw usage fault bad unfit few wrote mode text m us named told fits is recognised room calm small calm_sink small_sink = not_unfit text m us unit block index is recognised (subst (λ (t : List ℕ). HasUnfit t unit block index) (same_text old new text unfit.0 told unfit.1) unfit.2)
+complete words (status.TooFew unit point needed) old new ko kn b n bw nw usage fault bad unfit few wrote mode text m us named told fits is recognised room calm small calm_sink small_sink = not_crowded mode text m us unit point needed is room (subst (λ (t : List ℕ). HasCrowd mode t unit point needed) (same_text old new text few.2.0 told few.2.1) (subst (λ (mode : Mode). HasCrowd mode few.2.0 unit point needed) (same_mode few.0 mode words few.1 named) few.2.2))
+complete words (status.WriteFault written) old new ko kn b n bw nw usage fault bad unfit few wrote mode text m us named told fits is recognised room calm small calm_sink small_sink = calm_not_rose bw nw calm_sink small_sink wrote.2

@@ -1,5 +1,6 @@
 -- What a text compiles to, and why it doesn't compile.
 use Rattle.std.specs.Prelude.{ℕ, zero, suc, ◌≡◌, List, [], ◌∷◌, ◌++◌, length, map, All}
+use Rattle.std.specs.List.{AllZip}
 use Rattle.po_ir.specs.declared.unit.Unit.{Unit as StackUnit}
 use Rattle.po_model.specs.declared.machine.Machine.{Machine}
 use Rattle.po_model.specs.UnitCodes.{PlainUnit, flat}
@@ -7,7 +8,10 @@ use Rattle.po_model.specs.Naive.{naive}
 use Rattle.po_model.specs.Fitted.{IsRecognised, IsUnrecognised}
 use Rattle.po_model.specs.Placement.{intervals, registers, IsUncrowded, IsCrowded}
 use Rattle.po_model.specs.Assembly.{IsAssembly}
+use Rattle.po_run.specs.declared.mode.Mode.{Mode}
 use Rattle.po_run.specs.Input.{IsInput}
+use Rattle.po_run.specs.Modes.{IsCodeIn}
+use Rattle.po_run.specs.Runs.{RunsAsNaive}
 
 -- the first bad one of these has the number n; those before it are good
 abbrev pub FirstBad : {X : Type 0} → (X → Type 0) → (X → Type 0) → List X → ℕ → Type 0
@@ -36,17 +40,43 @@ AreAssembled m (u ∷ us) out = (text : List ℕ) × (rest : List ℕ) × IsAsse
 abbrev pub naive_codes : List StackUnit → List PlainUnit
 naive_codes us = map naive us
 
--- the output for a text
-abbrev pub IsOutput : List ℕ → List ℕ → Type 0
-IsOutput text out = (m : Machine) × (us : List StackUnit) × IsInput text m us
-    × All (Fits m) (naive_codes us) × All (HasRoom m) (naive_codes us) × AreAssembled m (naive_codes us) out
+-- these are the codes that the mode makes of the units' naive codes, one for each
+abbrev pub AreCodesIn : Mode → Machine → List StackUnit → List PlainUnit → Type 0
+AreCodesIn mode m us vs = AllZip (IsCodeIn mode m) (naive_codes us) vs
 
--- the instruction `index` of the block `block` of the unit n is the first that no entry fits
+-- the output for a machine and units
+pub record IsOutputOf (mode : Mode) (m : Machine) (us : List StackUnit) (out : List ℕ) : Type 0 where
+  -- each instruction of the naive codes fits an entry
+  pub fits : All (Fits m) (naive_codes us)
+  -- the codes that the mode makes are assembled: each instruction fits, and the machine has a register for each value
+  pub made : List PlainUnit
+  pub codes : AreCodesIn mode m us made
+  pub fit : All (Fits m) made
+  pub room : All (HasRoom m) made
+  pub assembled : AreAssembled m made out
+  -- the placed code of each unit runs as its naive code
+  pub runs : AllZip (RunsAsNaive m) (naive_codes us) made
+
+-- the output for a text
+abbrev pub IsOutput : Mode → List ℕ → List ℕ → Type 0
+IsOutput mode text out = (m : Machine) × (us : List StackUnit) × IsInput text m us × IsOutputOf mode m us out
+
+-- in every mode: the instruction `index` of the block `block` of the naive code of the unit n is the first that no entry fits
 abbrev pub HasUnfit : List ℕ → ℕ → ℕ → ℕ → Type 0
 HasUnfit text n block index = (m : Machine) × (us : List StackUnit) × IsInput text m us
     × FirstBad (Fits m) (λ u. IsUnrecognised u.code m block index) (naive_codes us) n
 
--- every instruction is recognised, the unit n is the first with a crowded point, and this is its first one
-abbrev pub HasCrowd : List ℕ → ℕ → ℕ → ℕ → Type 0
-HasCrowd text n point needed = (m : Machine) × (us : List StackUnit) × IsInput text m us
-    × All (Fits m) (naive_codes us) × FirstBad (HasRoom m) (IsShort m point needed) (naive_codes us) n
+-- each instruction of the naive codes fits; of the codes that the mode makes the unit n is the first with a crowded point, and this is
+-- its first one
+pub record IsCrowdOf (mode : Mode) (m : Machine) (us : List StackUnit) (n point needed : ℕ) : Type 0 where
+  pub fits : All (Fits m) (naive_codes us)
+  pub made : List PlainUnit
+  pub codes : AreCodesIn mode m us made
+  pub crowded : FirstBad (HasRoom m) (IsShort m point needed) made n
+
+abbrev pub HasCrowd : Mode → List ℕ → ℕ → ℕ → ℕ → Type 0
+HasCrowd mode text n point needed = (m : Machine) × (us : List StackUnit) × IsInput text m us × IsCrowdOf mode m us n point needed
+
+-- whatever codes the mode makes of the units, no point of them is crowded
+abbrev pub HaveRoom : Mode → Machine → List StackUnit → Type 0
+HaveRoom mode m us = (made : List PlainUnit) → AreCodesIn mode m us made → All (HasRoom m) made

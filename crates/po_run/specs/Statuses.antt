@@ -1,5 +1,5 @@
 -- What each status of the top call says of the source, the sink and the text.
-use Rattle.std.specs.Prelude.{ℕ, ◌-◌, ◌^◌, ◌≤◌, ◌<◌, ◌≡◌, List, [], ◌∷◌, length, take, map, codes, All, Option, Some, Result, Ok, Err, IfSome, string_bytes, ⊤}
+use Rattle.std.specs.Prelude.{ℕ, ◌-◌, ◌^◌, ◌≤◌, ◌<◌, ◌≡◌, List, [], length, take, All, Option, Some, Result, Ok, Err, IfSome, ⊤}
 use Rattle.std.specs.declared.string.String.{String}
 use Rattle.std.specs.declared.vec.Vec.{Vec}
 use Rattle.std.specs.declared.alloc.Global.{Global}
@@ -15,15 +15,17 @@ use Rattle.po_run.specs.declared.status.Status.TheVariants as status
 use Rattle.po_run.specs.declared.refusal.Refusal.{Refusal}
 use Rattle.po_run.specs.declared.refusal.Refusal.TheVariants as refusal
 use Rattle.po_run.specs.Input.{input_in, IsInput}
-use Rattle.po_run.specs.Output.{IsOutput, HasUnfit, HasCrowd, Fits, HasRoom, naive_codes}
+use Rattle.po_run.specs.declared.mode.Mode.{Mode}
+use Rattle.po_run.specs.Modes.{IsMode}
+use Rattle.po_run.specs.Output.{IsOutput, HasUnfit, HasCrowd, HaveRoom, Fits, naive_codes}
 
--- what compiling a text gives
-abbrev pub Compiles : List ℕ → Result (Vec ℕ Global) Refusal → Type 0
-Compiles text (Ok out) = IsOutput text out.items
-Compiles text (Err (refusal.BadText line col kind)) = input_in text ≡ Err (text_fault line col kind)
-Compiles text (Err (refusal.Unrecognised unit block index)) = HasUnfit text unit block index
-Compiles text (Err (refusal.TooFew unit point needed)) = HasCrowd text unit point needed
-Compiles text (Err refusal.OutOfMemory) = ⊤
+-- what compiling a text in a mode gives
+abbrev pub Compiles : Mode → List ℕ → Result (Vec ℕ Global) Refusal → Type 0
+Compiles mode text (Ok out) = IsOutput mode text out.items
+Compiles mode text (Err (refusal.BadText line col kind)) = input_in text ≡ Err (text_fault line col kind)
+Compiles mode text (Err (refusal.Unrecognised unit block index)) = HasUnfit text unit block index
+Compiles mode text (Err (refusal.TooFew unit point needed)) = HasCrowd mode text unit point needed
+Compiles mode text (Err refusal.OutOfMemory) = ⊤
 
 -- the status of a refusal
 abbrev pub status_for : Refusal → Status
@@ -32,9 +34,9 @@ status_for (refusal.Unrecognised unit block index) = status.Unrecognised unit bl
 status_for (refusal.TooFew unit point needed) = status.TooFew unit point needed
 status_for refusal.OutOfMemory = status.OutOfMemory
 
--- the words are the single word `naive`
-abbrev pub IsNaive : List (String Global) → Type 0
-IsNaive words = map string_bytes words ≡ codes "naive" ∷ []
+-- P of the mode that the words name
+abbrev pub InMode : List (String Global) → (Mode → Type 0) → Type 0
+InMode words P = (mode : Mode) × IsMode mode words × P mode
 
 -- the source gave this text and has no more, and the text isn't longer than an input may be
 pub record ReadsWhole (old new : Option (List ℕ)) (text : List ℕ) : Type 0 where
@@ -43,9 +45,9 @@ pub record ReadsWhole (old new : Option (List ℕ)) (text : List ℕ) : Type 0 w
   pub fits : length text ≤ 4194304
 
 -- the text was read to its end, and the sink took exactly its output
-abbrev pub OnDone : Status → Option (List ℕ) → Option (List ℕ) → Option (List ℕ) → Option (List ℕ) → Type 0
-OnDone status.Done old new kept_old kept_new = (text : List ℕ) × (out : List ℕ) × ReadsWhole old new text × IsOutput text out × (kept_new ≡ after_known kept_old out)
-OnDone s old new kept_old kept_new = ⊤
+abbrev pub OnDone : List (String Global) → Status → Option (List ℕ) → Option (List ℕ) → Option (List ℕ) → Option (List ℕ) → Type 0
+OnDone words status.Done old new kept_old kept_new = InMode words (λ mode. (text : List ℕ) × (out : List ℕ) × ReadsWhole old new text × IsOutput mode text out × (kept_new ≡ after_known kept_old out))
+OnDone words s old new kept_old kept_new = ⊤
 
 -- the first fault of the text, or the first byte past the limit of an input
 abbrev pub OnBadText : Status → Option (List ℕ) → Option (List ℕ) → Type 0
@@ -54,20 +56,20 @@ OnBadText (status.BadText line col kind) old new =
     ⊎ ((text : List ℕ) × (kind ≡ TooMany) × (4194304 < length text) × (old ≡ before_known text new) × ((line, col) ≡ place_behind (take 4194304 text)))
 OnBadText s old new = ⊤
 
--- the first instruction that no entry fits
+-- the first naive instruction that no entry fits
 abbrev pub OnUnrecognised : Status → Option (List ℕ) → Option (List ℕ) → Type 0
 OnUnrecognised (status.Unrecognised unit block index) old new = (text : List ℕ) × ReadsWhole old new text × HasUnfit text unit block index
 OnUnrecognised s old new = ⊤
 
--- every instruction is recognised, and this is the first crowded point of the first unit that has one
-abbrev pub OnTooFew : Status → Option (List ℕ) → Option (List ℕ) → Type 0
-OnTooFew (status.TooFew unit point needed) old new = (text : List ℕ) × ReadsWhole old new text × HasCrowd text unit point needed
-OnTooFew s old new = ⊤
+-- every naive instruction is recognised, and this is the first crowded point of the first unit that has one
+abbrev pub OnTooFew : List (String Global) → Status → Option (List ℕ) → Option (List ℕ) → Type 0
+OnTooFew words (status.TooFew unit point needed) old new = InMode words (λ mode. (text : List ℕ) × ReadsWhole old new text × HasCrowd mode text unit point needed)
+OnTooFew words s old new = ⊤
 
 -- the sink failed, and took so many bytes of the output
-abbrev pub OnWriteFault : Status → Option (List ℕ) → Option (List ℕ) → ℕ → ℕ → Option (List ℕ) → Option (List ℕ) → Type 0
-OnWriteFault (status.WriteFault written) old new before now kept_old kept_new = (text : List ℕ) × (out : List ℕ) × ReadsWhole old new text × IsOutput text out × (written ≤ length out) × (kept_new ≡ after_known kept_old (take written out)) × (before ≤ now) × Rose before now
-OnWriteFault s old new before now kept_old kept_new = ⊤
+abbrev pub OnWriteFault : List (String Global) → Status → Option (List ℕ) → Option (List ℕ) → ℕ → ℕ → Option (List ℕ) → Option (List ℕ) → Type 0
+OnWriteFault words (status.WriteFault written) old new before now kept_old kept_new = InMode words (λ mode. (text : List ℕ) × (out : List ℕ) × ReadsWhole old new text × IsOutput mode text out × (written ≤ length out) × (kept_new ≡ after_known kept_old (take written out))) × (before ≤ now) × Rose before now
+OnWriteFault words s old new before now kept_old kept_new = ⊤
 
 -- the source failed
 abbrev pub OnReadFault : Status → ℕ → ℕ → Type 0
@@ -90,9 +92,9 @@ IsDoneOrMemory status.Done = ⊤
 IsDoneOrMemory status.OutOfMemory = ⊤
 IsDoneOrMemory s = ⊥
 
--- a text that has an output compiles, unless memory is wanted, where neither source nor sink failed
+-- a text that has an output in the mode of the words compiles, unless memory is wanted, where neither source nor sink failed
 abbrev pub IsComplete : List (String Global) → Status → Option (List ℕ) → ℕ → ℕ → ℕ → ℕ → Type 0
-IsComplete words s left before now before_written now_written = (text : List ℕ) (m : Machine) (us : List StackUnit)
-    → IsNaive words → left ≡ Some text → length text ≤ 4194304 → IsInput text m us → All (Fits m) (naive_codes us) → All (HasRoom m) (naive_codes us)
+IsComplete words s left before now before_written now_written = (mode : Mode) (text : List ℕ) (m : Machine) (us : List StackUnit)
+    → IsMode mode words → left ≡ Some text → length text ≤ 4194304 → IsInput text m us → All (Fits m) (naive_codes us) → HaveRoom mode m us
     → now ≡ before → before < 2 ^ 64 - 1 → now_written ≡ before_written → before_written < 2 ^ 64 - 1
     → IsDoneOrMemory s

@@ -11,7 +11,8 @@ use Rattle.po_assign.specs.declared.answer.Placed.{Placed}
 use Rattle.po_run.specs.declared.refusal.Refusal.{Refusal}
 use Rattle.po_run.specs.declared.refusal.Refusal.TheVariants as refusal
 use Rattle.po_run.specs.Input.{Program}
-use Rattle.po_run.specs.Output.{FirstBad, Fits, HasRoom, IsShort, AreAssembled, naive_codes}
+use Rattle.po_run.specs.declared.mode.Mode.{Mode}
+use Rattle.po_run.specs.Output.{FirstBad, Fits, HasRoom, IsShort, IsOutputOf, IsCrowdOf, naive_codes}
 
 abbrev pub units_of : List UnitCode → List PlainUnit
 units_of codes = map unit_of codes
@@ -42,13 +43,13 @@ Assigned m us (Err (refusal.Unrecognised unit block index)) = ⊥
 Assigned m us (Err (refusal.TooFew unit point needed)) = FirstBad (HasRoom m) (IsShort m point needed) us unit
 Assigned m us (Err refusal.OutOfMemory) = ⊤
 
--- the assembly of a program, or why it has none
-abbrev pub Assembles : Program → Result (Vec ℕ Global) Refusal → Type 0
-Assembles p (Ok out) = All (Fits p.machine) (naive_codes p.units) × All (HasRoom p.machine) (naive_codes p.units) × AreAssembled p.machine (naive_codes p.units) out.items
-Assembles p (Err (refusal.BadText line col kind)) = ⊥
-Assembles p (Err (refusal.Unrecognised unit block index)) = FirstBad (Fits p.machine) (λ u. IsUnrecognised u.code p.machine block index) (naive_codes p.units) unit
-Assembles p (Err (refusal.TooFew unit point needed)) = All (Fits p.machine) (naive_codes p.units) × FirstBad (HasRoom p.machine) (IsShort p.machine point needed) (naive_codes p.units) unit
-Assembles p (Err refusal.OutOfMemory) = ⊤
+-- the assembly of a program in a mode, or why it has none
+abbrev pub Assembles : Mode → Program → Result (Vec ℕ Global) Refusal → Type 0
+Assembles mode p (Ok out) = IsOutputOf mode p.machine p.units out.items
+Assembles mode p (Err (refusal.BadText line col kind)) = ⊥
+Assembles mode p (Err (refusal.Unrecognised unit block index)) = FirstBad (Fits p.machine) (λ u. IsUnrecognised u.code p.machine block index) (naive_codes p.units) unit
+Assembles mode p (Err (refusal.TooFew unit point needed)) = IsCrowdOf mode p.machine p.units unit point needed
+Assembles mode p (Err refusal.OutOfMemory) = ⊤
 
 -- a refusal is want of memory
 abbrev pub IsMemory : {A : Type 0} → Result A Refusal → Type 0

@@ -1,35 +1,22 @@
 //! The top call: words, reading, compiling, writing, in this order, and what is told of the end.
 //!
 //! Nothing is written before the whole output is made, so every refusal but a write fault leaves the sink as it was.
-ghost use Rattle.std.specs.Prelude.{◌≡◌, ◌↔◌, ◌<◌, ◌-◌, ◌^◌, codes, IsTrue};
+ghost use Rattle.std.specs.Prelude.{◌≡◌, ◌↔◌, ◌<◌, ◌-◌, ◌^◌};
 ghost use Rattle.po_text.specs.Causes.{after_known};
+ghost use Rattle.po_run.specs.Modes.{IsNoMode};
 ghost use Rattle.po_run.specs.Notes.{note_line};
-ghost use Rattle.po_run.specs.Statuses.{IsNaive, OnDone, OnUsage, OnReadFault, OnBadText, OnUnrecognised, OnTooFew, OnWriteFault, WritesNothing, IsComplete, status_for};
+ghost use Rattle.po_run.specs.Statuses.{OnDone, OnUsage, OnReadFault, OnBadText, OnUnrecognised, OnTooFew, OnWriteFault, WritesNothing, IsComplete, status_for};
 
 use crate::Status;
 use crate::compile::compile;
 use crate::notes::tell;
 use crate::refusal::Refusal;
+use crate::words::mode_of;
 use po_text::{Kind, ReadRefusal, Sink, Source, read_all, write_all};
 use std::alloc::Global;
 
 /// How many bytes an input may have.
 const LIMIT: usize = 4194304;
-
-fn is_naive_word(word: &str) -> bool
-    ensures { IsTrue result ↔ (word.now ≡ codes "naive") }
-{
-    word == "naive"
-}
-
-fn is_naive(words: &[String]) -> bool
-    ensures { IsTrue result ↔ IsNaive words.now }
-{
-    match words {
-        [word] => is_naive_word(word.as_str()),
-        _ => false,
-    }
-}
 
 /// The status of a refusal.
 fn status_of(refusal: Refusal) -> Status
@@ -53,19 +40,19 @@ fn status_of(refusal: Refusal) -> Status
 
 /// All but what is told on the notes.
 fn run<S: Source, K: Sink>(alloc: Global, words: &[String], source: &mut S, sink: &mut K) -> Status
-    ensures done { OnDone result (S.left source.old) (S.left source.new) (K.kept sink.old) (K.kept sink.new) }
-    ensures usage { (result ≡ Status.Usage) ↔ (IsNaive words.now → ⊥) }
+    ensures done { OnDone words.now result (S.left source.old) (S.left source.new) (K.kept sink.old) (K.kept sink.new) }
+    ensures usage { (result ≡ Status.Usage) ↔ IsNoMode words.now }
     ensures unread { OnUsage result (S.left source.old) (S.left source.new) }
     ensures read_fault { OnReadFault result (S.faults source.old) (S.faults source.new) }
     ensures bad_text { OnBadText result (S.left source.old) (S.left source.new) }
     ensures unrecognised { OnUnrecognised result (S.left source.old) (S.left source.new) }
-    ensures too_few { OnTooFew result (S.left source.old) (S.left source.new) }
-    ensures write_fault { OnWriteFault result (S.left source.old) (S.left source.new) (K.faults sink.old) (K.faults sink.new) (K.kept sink.old) (K.kept sink.new) }
+    ensures too_few { OnTooFew words.now result (S.left source.old) (S.left source.new) }
+    ensures write_fault { OnWriteFault words.now result (S.left source.old) (S.left source.new) (K.faults sink.old) (K.faults sink.new) (K.kept sink.old) (K.kept sink.new) }
     ensures written { WritesNothing result (K.faults sink.old) (K.faults sink.new) (K.kept sink.old) (K.kept sink.new) }
 {
-    if !is_naive(words) {
+    let Some(mode) = mode_of(words) else {
         return Status::Usage;
-    }
+    };
     let text = match read_all(alloc, source, LIMIT) {
         Ok(text) => text,
         Err(ReadRefusal::ReadFault) => return Status::ReadFault,
@@ -78,7 +65,7 @@ fn run<S: Source, K: Sink>(alloc: Global, words: &[String], source: &mut S, sink
         }
         Err(ReadRefusal::OutOfMemory) => return Status::OutOfMemory,
     };
-    let out = match compile(alloc, &text) {
+    let out = match compile(alloc, mode, &text) {
         Ok(out) => out,
         Err(refusal) => return status_of(refusal),
     };
@@ -100,11 +87,12 @@ pub fn po_serial<S: Source, K: Sink, N: Sink>(
     sink: &mut K,
     notes: &mut N,
 ) -> Status
-    // The source was read to its end, and what the sink keeps grew by exactly the output.
-    ensures done { OnDone result (S.left source.old) (S.left source.new) (K.kept sink.old) (K.kept sink.new) }
+    // The source was read to its end, and what the sink keeps grew by exactly the output in the mode of the words, which runs as the
+    // naive code of each unit does.
+    ensures done { OnDone words.now result (S.left source.old) (S.left source.new) (K.kept sink.old) (K.kept sink.new) }
 
     // Exactly where the words are none of a mode; then nothing is read.
-    ensures usage { (result ≡ Status.Usage) ↔ (IsNaive words.now → ⊥) }
+    ensures usage { (result ≡ Status.Usage) ↔ IsNoMode words.now }
     ensures unread { OnUsage result (S.left source.old) (S.left source.new) }
 
     // Exactly where the source's faults rose.
@@ -113,19 +101,20 @@ pub fn po_serial<S: Source, K: Sink, N: Sink>(
     // The text is outside the grammar, or longer than the limit.
     ensures bad_text { OnBadText result (S.left source.old) (S.left source.new) }
 
-    // The first instruction that no entry fits.
+    // In both modes the first instruction of the naive code that no entry fits.
     ensures unrecognised { OnUnrecognised result (S.left source.old) (S.left source.new) }
 
-    // Every instruction is recognised, and this is the first crowded point.
-    ensures too_few { OnTooFew result (S.left source.old) (S.left source.new) }
+    // Every naive instruction is recognised, and this is the first crowded point of the code that the mode makes.
+    ensures too_few { OnTooFew words.now result (S.left source.old) (S.left source.new) }
 
     // Exactly where the sink's faults rose; what it keeps grew by the first `written` bytes of the output.
-    ensures write_fault { OnWriteFault result (S.left source.old) (S.left source.new) (K.faults sink.old) (K.faults sink.new) (K.kept sink.old) (K.kept sink.new) }
+    ensures write_fault { OnWriteFault words.now result (S.left source.old) (S.left source.new) (K.faults sink.old) (K.faults sink.new) (K.kept sink.old) (K.kept sink.new) }
 
     // After every answer but Done and WriteFault the sink has what it had.
     ensures written { WritesNothing result (K.faults sink.old) (K.faults sink.new) (K.kept sink.old) (K.kept sink.new) }
 
-    // Where the grammar holds, each instruction is recognised, no point is crowded and no fault rose: Done, or memory was refused.
+    // Where the grammar holds, each naive instruction is recognised, no point of the code that the mode makes is crowded and no fault
+    // rose: Done, or memory was refused.
     ensures complete { IsComplete words.now result (S.left source.old) (S.faults source.old) (S.faults source.new) (K.faults sink.old) (K.faults sink.new) }
 
     // Where the notes don't fail, they grow by exactly the line of the status.

@@ -17,7 +17,8 @@ use po_model::{Machine, UnitCode};
 use po_word::OutOfMemory;
 use std::alloc::Global;
 
-fn push_code(codes: &mut Vec<UnitCode>, code: UnitCode) -> Result<(), OutOfMemory>
+/// Puts a code behind these.
+pub fn push_code(codes: &mut Vec<UnitCode>, code: UnitCode) -> Result<(), OutOfMemory>
     ensures { OnOk result (codes.new.items ≡ codes.old.items ++ code ∷ []) }
 {
     match codes.push(code) {

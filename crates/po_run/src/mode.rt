@@ -1,0 +1,10 @@
+//! The modes that make assembly.
+
+/// What becomes of the naive code of a unit before its values get registers (docs/PROGRAM.md, "Modes").
+#[derive(Clone, Copy, Debug, PartialEq, Eq)]
+pub enum Mode {
+    /// Nothing: the naive code is placed.
+    Naive,
+    /// All passes go over it, and what they make is placed.
+    Slow,
+}
