@@ -1,6 +1,6 @@
 //! Whether a machine has an instruction for each one of a code: blocks in order, and in each its instructions in order.
 
-ghost use Rattle.std.specs.Prelude.{◌≡◌, ◌<◌, ◌^◌, ℕ, length, map, is_some, IfOk};
+ghost use Rattle.std.specs.Prelude.{◌≡◌, ◌<◌, ◌^◌, ℕ, length, map, is_some};
 ghost use Rattle.po_term.specs.Moves.{instr_of, instrs_of};
 ghost use Rattle.po_model.specs.Blocks.{block_of, code_of, instrs_at, IsCode};
 ghost use Rattle.po_model.specs.Fit.{fit};
@@ -11,25 +11,20 @@ ghost use Rattle.po_expand.specs.Checks.{Checks, ChecksBlock, ChecksBlocks};
 use crate::refusal::CheckRefusal;
 use po_live::cc_live_after;
 use po_model::{Block, Machine, UnitCode};
-use po_recog::recognise;
+use po_recog::is_recognised;
 use po_term::Instr;
-use po_word::OutOfMemory;
 use std::alloc::Global;
 
 /// Whether an entry fits an instruction, where `cc` is live after it or not.
-fn fits(alloc: Global, m: &Machine, instr: &Instr, cc_live: bool) -> Result<bool, OutOfMemory>
+fn fits(m: &Machine, instr: &Instr, cc_live: bool) -> bool
     requires { length m.now.entries < 2 ^ 32 }
-    ensures { IfOk result (λ yes. yes ≡ is_some (fit m.now cc_live (instr_of instr.now))) }
+    ensures { result ≡ is_some (fit m.now cc_live (instr_of instr.now)) }
 {
-    match recognise(alloc, m, &instr.xs, cc_live)? {
-        Some(_) => Ok(true),
-        None => Ok(false),
-    }
+    is_recognised(m, &instr.xs, cc_live)
 }
 
 /// Whether an entry fits each instruction of a block.
 fn check_block(
-    alloc: Global,
     m: &Machine,
     block: u32,
     instrs: &[Instr],
@@ -41,27 +36,18 @@ fn check_block(
     ensures { ChecksBlock m.now lives.now (instrs_of instrs.now) block result }
 {
     for i in 0..instrs.len() {
-        match fits(alloc, m, &instrs[i], lives[i]) {
-            Ok(true) => {}
-            Ok(false) => {
-                return Err(CheckRefusal::Unrecognised {
-                    block,
-                    index: i as u32,
-                });
-            }
-            Err(_) => return Err(CheckRefusal::OutOfMemory),
+        if !fits(m, &instrs[i], lives[i]) {
+            return Err(CheckRefusal::Unrecognised {
+                block,
+                index: i as u32,
+            });
         }
     }
     Ok(())
 }
 
 /// Whether an entry fits each instruction of these blocks.
-fn check_blocks(
-    alloc: Global,
-    m: &Machine,
-    blocks: &[Block],
-    lives: &[Vec<bool>],
-) -> Result<(), CheckRefusal>
+fn check_blocks(m: &Machine, blocks: &[Block], lives: &[Vec<bool>]) -> Result<(), CheckRefusal>
     requires entries { length m.now.entries < 2 ^ 32 }
     requires blocks { length lives.now ≡ length blocks.now }
     requires lengths { (b : ℕ) → length (flags_at lives.now b) ≡ length (instrs_at (map block_of blocks.now) b) }
@@ -70,7 +56,7 @@ fn check_blocks(
     ensures { ChecksBlocks m.now lives.now (map block_of blocks.now) result }
 {
     for b in 0..blocks.len() {
-        match check_block(alloc, m, b as u32, &blocks[b].instrs, &lives[b]) {
+        match check_block(m, b as u32, &blocks[b].instrs, &lives[b]) {
             Ok(()) => {}
             Err(refusal) => return Err(refusal),
         }
@@ -91,5 +77,5 @@ pub fn check(alloc: Global, m: &Machine, u: &UnitCode) -> Result<(), CheckRefusa
         Ok(lives) => lives,
         Err(_) => return Err(CheckRefusal::OutOfMemory),
     };
-    check_blocks(alloc, m, &u.code.blocks, &lives.after)
+    check_blocks(m, &u.code.blocks, &lives.after)
 }
