@@ -1,4 +1,4 @@
 pub mod Lists
-pub mod Lives
+pub mod Flags
 pub mod Operands
 pub mod Turns

@@ -1,18 +1,17 @@
 //! The lines of instructions and of blocks.
 ghost use Rattle.std.specs.Prelude.{◌≡◌, ◌++◌, ◌<◌, ◌^◌, ℕ, Bool, OnOk, length, slice_get};
 ghost use Rattle.po_term.specs.Moves.{moves_of, instrs_of};
-ghost use Rattle.po_model.specs.declared.var.Var.TheVariants.{Cc};
 ghost use Rattle.po_model.specs.Fit.{fit};
-ghost use Rattle.po_model.specs.LiveSets.{holds_at};
 ghost use Rattle.po_model.specs.UnitCodes.{unit_of};
 ghost use Rattle.po_model.specs.Assembly.{label_line, line_of, lines_from};
 ghost use Rattle.po_recog.specs.Operands.{fit_of};
+ghost use Rattle.po_live.specs.Flags.{flag_at};
 ghost use Rattle.po_emit.specs.Regs.{machine_at};
 ghost use Rattle.po_emit.specs.Texts.{filled_from, line_with};
 
 use crate::fill::push_filled;
 use crate::names::{MachineRegs, push_label};
-use po_model::{Block, Live, Machine, UnitCode};
+use po_model::{Block, Machine, UnitCode};
 use po_recog::{Fit, recognise};
 use po_term::{Instr, Label, Transfer};
 use po_word::OutOfMemory;
@@ -85,11 +84,11 @@ fn push_line(
 }
 
 /// Whether `cc` is live after the instruction of that number.
-fn cc_live_at(lives: &[Live], i: usize) -> bool
-    ensures { result ≡ holds_at lives.now i Cc }
+fn cc_live_at(lives: &[bool], i: usize) -> bool
+    ensures { result ≡ flag_at lives.now i }
 {
     match lives.get(i) {
-        Some(live) => live.cc,
+        Some(live) => *live,
         None => false,
     }
 }
@@ -101,11 +100,11 @@ pub fn push_lines(
     regs: &MachineRegs,
     u: &UnitCode,
     xs: &[Instr],
-    lives: &[Live],
+    lives: &[bool],
     out: &mut Vec<u8>,
 ) -> Result<(), OutOfMemory>
     requires { length m.now.entries < 2 ^ 32 }
-    ensures { (live : ℕ → ℕ → Bool) (b : ℕ) → ((i : ℕ) → live b i ≡ holds_at lives.now i Cc) →
+    ensures { (live : ℕ → ℕ → Bool) (b : ℕ) → ((i : ℕ) → live b i ≡ flag_at lives.now i) →
         OnOk result (out.new.items ≡ out.old.items ++ lines_from m.now (machine_at regs.now) (unit_of u.now) live b 0 (instrs_of xs.now)) }
 {
     for (i, x) in xs.iter().enumerate() {

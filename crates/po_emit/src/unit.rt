@@ -1,24 +1,23 @@
 //! The whole unit.
 ghost use Rattle.std.specs.Prelude.{◌≡◌, ◌++◌, ◌<◌, ◌^◌, ℕ, Bool, List, OnOk, OnErr, IfOk, length, map};
-ghost use Rattle.po_model.specs.declared.var.Var.TheVariants.{Cc};
 ghost use Rattle.po_model.specs.Blocks.{code_of, block_of, IsCode};
-ghost use Rattle.po_model.specs.LiveSets.{holds_at, lives_at};
 ghost use Rattle.po_model.specs.UnitCodes.{unit_of};
 ghost use Rattle.po_term.specs.Moves.{instrs_of};
 ghost use Rattle.po_model.specs.Assembly.{label_line, lines_from, blocks_from, IsAssembly};
+ghost use Rattle.po_live.specs.Flags.{flag_at, flags_at};
 ghost use Rattle.po_emit.specs.Regs.{machine_at};
 
 use crate::lines::{push_label_line, push_lines};
 use crate::names::{MachineRegs, machine_regs};
 use po_assign::Placed;
-use po_live::live_after;
-use po_model::{Block, Live, Machine, UnitCode};
+use po_live::cc_live_after;
+use po_model::{Block, Machine, UnitCode};
 use po_word::OutOfMemory;
 use std::alloc::Global;
 
-/// What is live after each instruction of the block of that number.
-fn lives_at(lives: &[Vec<Live>], b: usize) -> &[Live]
-    ensures { result.now ≡ lives_at lives.now b }
+/// Whether `cc` is live after each instruction of the block of that number.
+fn flags_at(lives: &[Vec<bool>], b: usize) -> &[bool]
+    ensures { result.now ≡ flags_at lives.now b }
 {
     match lives.get(b) {
         Some(after) => after,
@@ -33,11 +32,11 @@ fn push_block(
     regs: &MachineRegs,
     u: &UnitCode,
     block: &Block,
-    lives: &[Live],
+    lives: &[bool],
     out: &mut Vec<u8>,
 ) -> Result<(), OutOfMemory>
     requires { length m.now.entries < 2 ^ 32 }
-    ensures { (live : ℕ → ℕ → Bool) (b : ℕ) → ((i : ℕ) → live b i ≡ holds_at lives.now i Cc) →
+    ensures { (live : ℕ → ℕ → Bool) (b : ℕ) → ((i : ℕ) → live b i ≡ flag_at lives.now i) →
         OnOk result (out.new.items ≡ out.old.items ++ label_line (unit_of u.now) block.now.label ++ lines_from m.now (machine_at regs.now) (unit_of u.now) live b 0 (instrs_of block.now.instrs.items)) }
 {
     push_label_line(u, block.label, out)?;
@@ -50,14 +49,14 @@ fn push_blocks(
     m: &Machine,
     regs: &MachineRegs,
     u: &UnitCode,
-    lives: &[Vec<Live>],
+    lives: &[Vec<bool>],
     out: &mut Vec<u8>,
 ) -> Result<(), OutOfMemory>
     requires { length m.now.entries < 2 ^ 32 }
-    ensures { OnOk result (out.new.items ≡ out.old.items ++ blocks_from m.now (machine_at regs.now) (unit_of u.now) (λ b i. holds_at (lives_at lives.now b) i Cc) 0 (code_of u.now.code)) }
+    ensures { OnOk result (out.new.items ≡ out.old.items ++ blocks_from m.now (machine_at regs.now) (unit_of u.now) (λ b i. flag_at (flags_at lives.now b) i) 0 (code_of u.now.code)) }
 {
     for (b, block) in u.code.blocks.iter().enumerate() {
-        push_block(alloc, m, regs, u, block, lives_at(lives, b), out)?;
+        push_block(alloc, m, regs, u, block, flags_at(lives, b), out)?;
     }
     Ok(())
 }
@@ -69,7 +68,7 @@ fn text_of(alloc: Global, m: &Machine, p: &Placed) -> Result<Vec<u8>, OutOfMemor
     ensures { IfOk result (λ text. IsAssembly m.now p.now.regs.items (unit_of p.now.unit) text.items) }
 {
     let regs = machine_regs(alloc, &p.regs)?;
-    let lives = live_after(alloc, &p.unit.code)?;
+    let lives = cc_live_after(alloc, &p.unit.code)?;
     let mut out = Vec::new(alloc);
     out.extend_from_slice(p.unit.name.bytes())?;
     out.extend_from_slice(b":\n")?;

@@ -1,40 +1,34 @@
 //! Whether a machine has an instruction for each one of a code: blocks in order, and in each its instructions in order.
 
-ghost use Rattle.std.specs.Prelude.{◌≡◌, ◌<◌, ◌^◌, ℕ, length, map, is_some, IfOk};
+ghost use Rattle.std.specs.Prelude.{◌≡◌, ◌<◌, ◌^◌, ℕ, length, map, is_some};
 ghost use Rattle.po_term.specs.Moves.{instr_of, instrs_of};
-ghost use Rattle.po_model.specs.declared.var.Var.TheVariants.{Cc};
 ghost use Rattle.po_model.specs.Blocks.{block_of, code_of, instrs_at, IsCode};
 ghost use Rattle.po_model.specs.Fit.{fit};
-ghost use Rattle.po_model.specs.LiveSets.{holds, lives_at};
 ghost use Rattle.po_model.specs.UnitCodes.{flat};
+ghost use Rattle.po_live.specs.Flags.{flags_at};
 ghost use Rattle.po_expand.specs.Checks.{Checks, ChecksBlock, ChecksBlocks};
 
 use crate::refusal::CheckRefusal;
-use po_live::live_after;
-use po_model::{Block, Live, Machine, UnitCode};
-use po_recog::recognise;
+use po_live::cc_live_after;
+use po_model::{Block, Machine, UnitCode};
+use po_recog::is_recognised;
 use po_term::Instr;
-use po_word::OutOfMemory;
 use std::alloc::Global;
 
-/// Whether an entry fits an instruction, with what is live after it.
-fn fits(alloc: Global, m: &Machine, instr: &Instr, live: &Live) -> Result<bool, OutOfMemory>
+/// Whether an entry fits an instruction, where `cc` is live after it or not.
+fn fits(m: &Machine, instr: &Instr, cc_live: bool) -> bool
     requires { length m.now.entries < 2 ^ 32 }
-    ensures { IfOk result (λ yes. yes ≡ is_some (fit m.now (holds live.now Cc) (instr_of instr.now))) }
+    ensures { result ≡ is_some (fit m.now cc_live (instr_of instr.now)) }
 {
-    match recognise(alloc, m, &instr.xs, live.cc)? {
-        Some(_) => Ok(true),
-        None => Ok(false),
-    }
+    is_recognised(m, &instr.xs, cc_live)
 }
 
 /// Whether an entry fits each instruction of a block.
 fn check_block(
-    alloc: Global,
     m: &Machine,
     block: u32,
     instrs: &[Instr],
-    lives: &[Live],
+    lives: &[bool],
 ) -> Result<(), CheckRefusal>
     requires entries { length m.now.entries < 2 ^ 32 }
     requires lengths { length lives.now ≡ length instrs.now }
@@ -42,36 +36,27 @@ fn check_block(
     ensures { ChecksBlock m.now lives.now (instrs_of instrs.now) block result }
 {
     for i in 0..instrs.len() {
-        match fits(alloc, m, &instrs[i], &lives[i]) {
-            Ok(true) => {}
-            Ok(false) => {
-                return Err(CheckRefusal::Unrecognised {
-                    block,
-                    index: i as u32,
-                });
-            }
-            Err(_) => return Err(CheckRefusal::OutOfMemory),
+        if !fits(m, &instrs[i], lives[i]) {
+            return Err(CheckRefusal::Unrecognised {
+                block,
+                index: i as u32,
+            });
         }
     }
     Ok(())
 }
 
 /// Whether an entry fits each instruction of these blocks.
-fn check_blocks(
-    alloc: Global,
-    m: &Machine,
-    blocks: &[Block],
-    lives: &[Vec<Live>],
-) -> Result<(), CheckRefusal>
+fn check_blocks(m: &Machine, blocks: &[Block], lives: &[Vec<bool>]) -> Result<(), CheckRefusal>
     requires entries { length m.now.entries < 2 ^ 32 }
     requires blocks { length lives.now ≡ length blocks.now }
-    requires lengths { (b : ℕ) → length (lives_at lives.now b) ≡ length (instrs_at (map block_of blocks.now) b) }
+    requires lengths { (b : ℕ) → length (flags_at lives.now b) ≡ length (instrs_at (map block_of blocks.now) b) }
     requires few_blocks { length blocks.now < 2 ^ 32 }
     requires few_instrs { (b : ℕ) → length (instrs_at (map block_of blocks.now) b) < 2 ^ 32 }
     ensures { ChecksBlocks m.now lives.now (map block_of blocks.now) result }
 {
     for b in 0..blocks.len() {
-        match check_block(alloc, m, b as u32, &blocks[b].instrs, &lives[b]) {
+        match check_block(m, b as u32, &blocks[b].instrs, &lives[b]) {
             Ok(()) => {}
             Err(refusal) => return Err(refusal),
         }
@@ -88,9 +73,9 @@ pub fn check(alloc: Global, m: &Machine, u: &UnitCode) -> Result<(), CheckRefusa
     requires few_blocks { length (code_of u.now.code) < 2 ^ 32 }
     ensures { Checks m.now (code_of u.now.code) result }
 {
-    let lives = match live_after(alloc, &u.code) {
+    let lives = match cc_live_after(alloc, &u.code) {
         Ok(lives) => lives,
         Err(_) => return Err(CheckRefusal::OutOfMemory),
     };
-    check_blocks(alloc, m, &u.code.blocks, &lives.after)
+    check_blocks(m, &u.code.blocks, &lives.after)
 }

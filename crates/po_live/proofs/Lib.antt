@@ -8,3 +8,4 @@ pub mod Fuel
 pub mod Spreads
 pub mod Solved
 pub mod Instrs
+pub mod Flags

@@ -26,9 +26,13 @@ back_same [] l m v e = e
 back_same (x ∷ xs) l m v e = ap (λ b. reads x v || (not (sets x v) && b)) (back_same xs l m v e)
 
 module _ (code : List PlainBlock) where
+  -- nothing is to be added of v
+  abbrev pub IsClosedFor : Var → (ℕ → Var → Bool) → Type 0
+  IsClosedFor v out = (b q : ℕ) → leads code b q ≡ true → back (instrs_at code q) (out q) v ≡ true → out b v ≡ true
+
   -- nothing is to be added
   abbrev pub IsClosed : (ℕ → Var → Bool) → Type 0
-  IsClosed out = (b q : ℕ) (v : Var) → leads code b q ≡ true → back (instrs_at code q) (out q) v ≡ true → out b v ≡ true
+  IsClosed out = (v : Var) → IsClosedFor v out
 
   -- nothing is too much
   abbrev pub IsJustified : (ℕ → Var → Bool) → Type 0
@@ -36,12 +40,12 @@ module _ (code : List PlainBlock) where
 
   module _ (out : ℕ → Var → Bool) where
     -- every path is covered
-    pub covers : IsClosed out → (v : Var) (path : List Point) (b : ℕ) (xs : List PlainInstr) → ReadOn code v (record { block = b; rest = xs }) path → back xs (out b) v ≡ true
-    covers closed v [] b [] h = absurd (false≢true h)
-    covers closed v [] b (x ∷ xs) h = rw h
-    covers closed v (q ∷ qs) b [] h = closed b q.block v h.1.0 (let ih = covers closed v qs q.block q.rest h.2 in rw (h.1.1) at ih)
-    covers closed v (q ∷ qs) b (x ∷ xs) h =
-        let ih = covers closed v qs q.block q.rest h.2 in
+    pub covers : (v : Var) → IsClosedFor v out → (path : List Point) (b : ℕ) (xs : List PlainInstr) → ReadOn code v (record { block = b; rest = xs }) path → back xs (out b) v ≡ true
+    covers v closed [] b [] h = absurd (false≢true h)
+    covers v closed [] b (x ∷ xs) h = rw h
+    covers v closed (q ∷ qs) b [] h = closed b q.block h.1.0 (let ih = covers v closed qs q.block q.rest h.2 in rw (h.1.1) at ih)
+    covers v closed (q ∷ qs) b (x ∷ xs) h =
+        let ih = covers v closed qs q.block q.rest h.2 in
         or_true (reads x v) (sets x v) (back xs (out b) v) h.0 (rw (h.1.1, h.1.0) at ih)
 
     -- each member has a path
@@ -56,7 +60,7 @@ module _ (code : List PlainBlock) where
 
     -- sets to which nothing is to be added, and in which nothing is too much, are what is read on some path
     pub is_read : IsClosed out → IsJustified out → (v : Var) (b : ℕ) (xs : List PlainInstr) → (back xs (out b) v ≡ true) ↔ IsRead code v (record { block = b; rest = xs })
-    is_read closed justified v b xs = (reached justified v b xs, λ l. covers closed v l.0 b xs l.1)
+    is_read closed justified v b xs = (reached justified v b xs, λ l. covers v (closed v) l.0 b xs l.1)
 
   -- from the end of a block to the start of the next
   pub from_end : (b q : ℕ) (v : Var) → leads code b q ≡ true → IsRead code v (record { block = q; rest = instrs_at code q }) → IsRead code v (record { block = b; rest = [] })

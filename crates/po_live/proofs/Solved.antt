@@ -108,7 +108,7 @@ module _ (code : List PlainBlock) (us : List Var) (out due : ℕ → Var → Boo
   }
 
   pub ended : Going code us out due → ((c : ℕ) (q : Var) → due c q ≡ false) → IsClosed code out × IsJustified code out
-  ended going none = (λ b q v l h. going.passed q b v h (none q v) l, going.justified)
+  ended going none = (λ v b q l h. going.passed q b v h (none q v) l, going.justified)
 
 -- v, due at the block here, is passed on; left is what else is due, preds are the blocks before
 module _ (code : List PlainBlock) (us : List Var) (out due : ℕ → Var → Bool) (going : Going code us out due) (here : ℕ) (v : Var) (left : ℕ → Var → Bool) (popped : (c : ℕ) (q : Var) → due c q ≡ ((here == c && var_eq v q) || left c q)) (preds : ℕ → Bool) (are_preds : (p : ℕ) → preds p ≡ (nat_lt p (length code) && leads code p here)) where

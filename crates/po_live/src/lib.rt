@@ -2,21 +2,26 @@
 //!
 //! `graph` says which block may follow which; `uses` walks back through instructions; `solve` finds what is live at the ends of
 //! blocks, and only that goes from block to block; `after` then walks back through each block once. `sets` has the sets themselves.
+//! `cc` does the same for `cc` alone, by flags.
 #![tactic(auto)]
 
 ghost use Rattle.std.specs.Prelude.{◌≡◌, ◌<◌, ◌↔◌, ℕ, IsTrue, IfOk, length};
 ghost use Rattle.po_model.specs.declared.var.Var.{Var};
+ghost use Rattle.po_model.specs.declared.var.Var.TheVariants.{Cc};
 ghost use Rattle.po_model.specs.Blocks.{code_of, instrs_at, IsCode};
 ghost use Rattle.po_model.specs.LiveAfter.{LiveAfter};
 ghost use Rattle.po_model.specs.LiveSets.{holds_at, lives_at};
+ghost use Rattle.po_live.specs.Flags.{flag_at, flags_at};
 
 mod after;
+mod cc;
 mod graph;
 mod sets;
 mod solve;
 mod uses;
 
 use after::blocks_after;
+use cc::{cc_ends, flags_after};
 use po_model::{Code, Live};
 use po_word::OutOfMemory;
 use solve::live_out;
@@ -41,4 +46,23 @@ pub fn live_after(alloc: Global, c: &Code) -> Result<Lives, OutOfMemory>
     let out = live_out(alloc, &c.blocks)?;
     let after = blocks_after(alloc, &c.blocks, &out)?;
     Ok(Lives { after })
+}
+
+/// Whether `cc` is live after each instruction, by block and index.
+#[derive(Drop)]
+pub struct CcLives {
+    pub after: Vec<Vec<bool>>,
+}
+
+/// Whether `cc` is live after each instruction of a code, or want of memory: what `live_after` says of `cc`, for less work
+/// (docs/OPTIMISER.md, "Liveness").
+pub fn cc_live_after(alloc: Global, c: &Code) -> Result<CcLives, OutOfMemory>
+    ensures blocks { IfOk result (λ l. length l.after.items ≡ length (code_of c.now)) }
+    ensures lengths { IfOk result (λ l. (b : ℕ) → length (flags_at l.after.items b) ≡ length (instrs_at (code_of c.now) b)) }
+    ensures live { IfOk result (λ l. (b i : ℕ) → i < length (instrs_at (code_of c.now) b)
+        → IsTrue (flag_at (flags_at l.after.items b) i) ↔ LiveAfter (code_of c.now) b i Cc) }
+{
+    let out = cc_ends(alloc, &c.blocks)?;
+    let after = flags_after(alloc, &c.blocks, &out)?;
+    Ok(CcLives { after })
 }

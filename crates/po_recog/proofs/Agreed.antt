@@ -1,7 +1,7 @@
 -- One walk says what the definition says in two steps: the operands are filled exactly where what is found agrees and each question
 -- has the answer yes, and then they are what the operands stand for.
 use Rattle.std.proofs.Common.{◌≡◌, ℕ, zero, ◌<◌, arith, eq-eqb, append-nil, Bool, true, false, List, [], ◌∷◌, ◌++◌, Option, Some, None, refl, ap, sym, ◌∙◌, subst, append_assoc, suc, map}
-use Rattle.std.specs.Prelude.{ℤ, ◌&&◌, ◌==◌, nat_lt, if◌then◌else◌, slice_get, slice_set}
+use Rattle.std.specs.Prelude.{ℤ, ◌&&◌, ◌==◌, nat_lt, if◌then◌else◌, is_some, slice_get, slice_set}
 use Rattle.std.specs.List.{list_all}
 use Rattle.std.specs.Option.{option_map}
 use Rattle.std.proofs.lemmas.Bool.{eqb-true, ltb-true, ltb-false}
@@ -277,3 +277,10 @@ answered_taken (Some fs) =
 -- what an entry's walk leaves, where its heads are the same
 pub entry_filled : (e : Entry) (cc_live : Bool) (ms : List (Move ℕ Place Register Symbol)) → (e.clobbers && cc_live) ≡ false → option_map operands_in (entry_fit places words cc_live e ms).got ≡ taken_if (moves_found places (pat_moves_of e.pattern) ms) (operands_in [])
 entry_filled e cc_live ms h = rw h (sym (answered_taken (moves_found places (pat_moves_of e.pattern) ms)))
+
+-- two that have one image are both there, or neither is
+pub same_some : {A B C : Type 0} (f : A → C) (g : B → C) (x : Option A) (y : Option B) → option_map f x ≡ option_map g y → is_some x ≡ is_some y
+same_some f g None None e = refl
+same_some f g None (Some y) e = (cc)
+same_some f g (Some x) None e = (cc)
+same_some f g (Some x) (Some y) e = refl

@@ -1,5 +1,5 @@
 //! The first entry that fits: entries are tried in order, and what one of them filled goes before the next is tried.
-ghost use Rattle.std.specs.Prelude.{◌≡◌, ◌<◌, ◌^◌, ℕ, List, Bool, true, false, length, IfOk, IsSome};
+ghost use Rattle.std.specs.Prelude.{◌≡◌, ◌<◌, ◌^◌, ℕ, List, Bool, true, false, length, IfOk, IsSome, is_some};
 ghost use Rattle.std.specs.Option.{option_map};
 ghost use Rattle.po_term.specs.declared.term.Reg.{Reg};
 ghost use Rattle.po_term.specs.declared.term.Sym.{Sym};
@@ -83,6 +83,15 @@ pub fn recognise(
             }))
         }
     }
+}
+
+/// Whether some entry of a machine fits a list of transfers, where `cc_live` says whether `cc` is live behind them
+/// (docs/DESCRIPTION.md, "What fits"). It takes no memory.
+pub fn is_recognised(m: &Machine, xs: &[Transfer], cc_live: bool) -> bool
+    requires { length m.now.entries < 2 ^ 32 }
+    ensures { result ≡ is_some (fit m.now cc_live (moves_of xs.now)) }
+{
+    first(m.entries.as_slice(), xs, cc_live).is_some()
 }
 
 /// A law, and no work: what fits while `cc` is live fits while it is dead too, maybe an earlier entry.

@@ -16,4 +16,4 @@ mod tiny;
 mod walk;
 
 pub use answer::{Fit, Operand};
-pub use entries::{fits_while_cc_is_dead, fits_within_limits, recognise};
+pub use entries::{fits_while_cc_is_dead, fits_within_limits, is_recognised, recognise};

@@ -1,18 +1,16 @@
 -- Codes block by block: what holds of the instructions of each block, and of two codes with the same labels.
 use Rattle.std.proofs.Common.{◌≡◌, ℕ, zero, suc, ◌+◌, ◌<◌, List, [], ◌∷◌, ◌++◌, length, map, refl, sym, ◌∙◌, ap, arith, length-append}
-use Rattle.std.specs.Prelude.{All, Option, Bool}
+use Rattle.std.specs.Prelude.{All, Bool}
 use mathlib.Core.Logic.{◌⊎◌, inl, inr}
 use Rattle.std.proofs.lemmas.List.{length-map}
 use Rattle.std.proofs.lemmas.List.Elements.{All-nil, All-cons, All-head, All-tail}
 use Rattle.po_term.specs.declared.term.Label.{Label}
 use Rattle.po_model.specs.declared.var.Var.{Var}
-use Rattle.po_model.specs.Blocks.{PlainInstr, PlainBlock, instrs_at}
+use Rattle.po_model.specs.Blocks.{PlainInstr, PlainBlock, instrs_at, block_from}
 use Rattle.po_model.specs.Scanned.{Ahead, instrs_ahead}
 use Rattle.po_model.specs.UnitCodes.{flat}
 use Rattle.po_slow.proofs.Onto.{onto}
-
-abbrev pub label_of : PlainBlock → Option Label
-label_of b = b.label
+use Rattle.po_slow.proofs.Passes.{label_of}
 
 -- the instructions that are to come
 abbrev pub instrs_in : List Ahead → List PlainInstr
@@ -64,3 +62,19 @@ same_blocks (x ∷ xs) (y ∷ ys) e h =
     go l (inl i) (inr t) = inr (let n = ap length i in omega (arith, left, right, n, t))
     go l (inr i) (inl t) = inr (let n = ap (λ (c : List PlainBlock). length (flat c)) t in omega (arith, left, right, n, i))
     go l (inr i) (inr t) = inr (omega (arith, left, right, i, t))
+
+-- a fact of the instructions of each block, and of none
+pub each_block : (Q : List PlainInstr → Type 0) → Q [] → (code : List PlainBlock) (b : ℕ) → All (λ b. Q b.instrs) code → Q (instrs_at code b)
+each_block Q none [] b h = none
+each_block Q none (x ∷ xs) zero h = All-head (λ (b : PlainBlock). Q b.instrs) x xs h
+each_block Q none (x ∷ xs) (suc b) h = each_block Q none xs b (All-tail (λ (b : PlainBlock). Q b.instrs) x xs h)
+
+-- the block of a label depends on the labels alone
+pub label_block : (n : ℕ) (xs ys : List PlainBlock) (l : Label) → map label_of xs ≡ map label_of ys → block_from n xs l ≡ block_from n ys l
+label_block n [] [] l e = refl
+label_block n [] (y ∷ ys) l e = absurd (cc)
+label_block n (x ∷ xs) [] l e = absurd (cc)
+label_block n (x ∷ xs) (y ∷ ys) l e =
+    let first : x.label ≡ y.label = (cc) in
+    let rest : map label_of xs ≡ map label_of ys = (cc) in
+    rw (first, label_block (suc n) xs ys l rest) refl

@@ -7,7 +7,7 @@ use Rattle.std.proofs.lemmas.List.Elements.{All-nil, All-cons, All-head, All-tai
 use mathlib.Core.Logic.{◌⊎◌, inl, inr}
 use Rattle.po_term.specs.declared.term.Sym.{Sym}
 use Rattle.po_term.specs.Terms.{Place}
-use Rattle.po_term.specs.Moves.{Ending, SetTo, CcTo, StoreTo, Ends}
+use Rattle.po_term.specs.Moves.{Ending}
 use Rattle.po_term.specs.Form.{WellFormed}
 use Rattle.po_model.specs.declared.machine.Machine.{Machine}
 use Rattle.po_model.specs.Blocks.{PlainInstr, PlainBlock, EndsLast, instrs_at, ending_of}
@@ -20,26 +20,20 @@ use Rattle.po_model.specs.UnitCodes.{NamedMove, NamedLabel, IsNamedBlock, flat}
 use Rattle.po_slow.specs.KeepsEffect.{KeepsEffect}
 use Rattle.po_slow.specs.Passes.{IsFormedCode}
 use Rattle.po_slow.proofs.Sound.{answer_keeps}
-use Rattle.po_slow.proofs.Passes.{Told, Laws, by_passes}
+use Rattle.po_slow.proofs.Passes.{Told, Laws, by_passes, label_of}
 use Rattle.po_slow.proofs.Onto.{onto, onto_reverse, length_onto, all_onto, all_replaced}
 use Rattle.po_slow.proofs.Named.{named_of_two}
 use Rattle.po_slow.proofs.PairWith.{pair_formed}
-use Rattle.po_slow.proofs.Blockwise.{label_of, instrs_in, whole, ahead_instrs, block_at, all_blocks, same_length, same_blocks}
+use Rattle.po_slow.proofs.LivenessEndings.{same_ending}
+use Rattle.po_slow.proofs.Blockwise.{instrs_in, whole, ahead_instrs, block_at, all_blocks, same_length, same_blocks}
 
 -- Where transfers of control stand
 
 abbrev IsQuiet : PlainInstr → Type 0
 IsQuiet x = ending_of x ≡ None
 
-endings_alike : (ms : PlainInstr) → ending_of ms ≡ parts.ending_of ms
-endings_alike [] = refl
-endings_alike (SetTo r t ∷ ms) = endings_alike ms
-endings_alike (CcTo t u ∷ ms) = endings_alike ms
-endings_alike (StoreTo t u ∷ ms) = endings_alike ms
-endings_alike (Ends e ∷ ms) = refl
-
 quiet_by : (a b : PlainInstr) → (is_some (parts.ending_of a) ≡ false → is_some (parts.ending_of b) ≡ false) → IsQuiet a → IsQuiet b
-quiet_by a b f h = endings_alike b ∙ none_there (parts.ending_of b) (f (ap is_some (sym (endings_alike a) ∙ h)))
+quiet_by a b f h = same_ending b ∙ none_there (parts.ending_of b) (f (ap is_some (sym (same_ending a) ∙ h)))
   where
     none_there : (o : Option (Ending ℕ Place Sym)) → is_some o ≡ false → o ≡ None
     none_there None e = refl

@@ -9,7 +9,6 @@ pub mod Distinct
 pub mod Virtuals
 pub mod Straight
 pub mod LivenessEndings
-pub mod LivenessPairs
 pub mod LivenessFlow
 pub mod LivenessPass
 pub mod LivenessCode
@@ -25,3 +24,6 @@ pub mod Places
 pub mod LivenessLast
 pub mod LivenessPasses
 pub mod KeptForm
+pub mod Standing
+pub mod Targets
+pub mod Written

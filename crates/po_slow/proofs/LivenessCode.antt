@@ -1,20 +1,19 @@
 -- A pass over a code makes nothing live: what is live in the code that it makes was live in the code that it began with.
-use Rattle.std.proofs.Common.{◌≡◌, ℕ, zero, suc, ◌<◌, ◌≤◌, Bool, true, false, List, [], ◌∷◌, length, drop, map, reverse, refl, sym, ◌∙◌, ap, arith}
+use Rattle.std.proofs.Common.{◌≡◌, ℕ, zero, suc, ◌<◌, ◌≤◌, Bool, true, false, List, [], ◌∷◌, length, drop, map, reverse, refl, ◌∙◌, ap, arith}
 use Rattle.std.specs.Prelude.{nat_lt, if◌then◌else◌, Option, Some, None, IsSome, All}
 use Rattle.std.proofs.lemmas.Bool.{false≢true}
-use Rattle.std.proofs.lemmas.List.{reverse-reverse, length-map}
-use Rattle.std.proofs.lemmas.List.Elements.{All-nil, All-cons, All-head, All-tail}
+use Rattle.std.proofs.lemmas.List.{reverse-reverse}
+use Rattle.std.proofs.lemmas.List.Elements.{All-nil, All-cons}
 use mathlib.Core.Logic.{◌⊎◌, inl, inr}
 use mathlib.Core.List.{reverse_aux}
 use Rattle.po_term.specs.declared.term.Sym.{Sym}
-use Rattle.po_term.specs.declared.term.Label.{Label}
 use Rattle.po_term.specs.Terms.{Place}
 use Rattle.po_term.specs.Moves.{Ending, GoTo, IfCc, IfTwo, CallOf, Return}
 use Rattle.po_term.specs.Form.{WellFormed}
 use Rattle.po_model.specs.declared.machine.Machine.{Machine}
 use Rattle.po_model.specs.declared.var.Var.{Var}
 use Rattle.po_model.specs.declared.var.Var.TheVariants.{Cc}
-use Rattle.po_model.specs.Blocks.{PlainInstr, PlainBlock, EndsLast, instrs_at, block_from, target_by, goes_on, is_at, ending_at, target_at, next_at, leads}
+use Rattle.po_model.specs.Blocks.{PlainInstr, PlainBlock, EndsLast, instrs_at, target_by, goes_on, is_at, ending_at, target_at, next_at, leads}
 use Rattle.po_model.specs.LiveAfter.{IsLive}
 use Rattle.po_model.specs.Fit.{fit}
 use Rattle.po_model.specs.Fitted.{instr_at}
@@ -23,13 +22,11 @@ use Rattle.po_model.specs.Scanned.{Ahead}
 use Rattle.po_slow.specs.Passes.{IsFormedCode, IsLiveAt}
 use Rattle.po_recog.proofs.Clobbers.{fits_dead}
 use Rattle.po_subst.proofs.Reading.{by_either, left_true, right_true}
-use Rattle.po_slow.proofs.Passes.{Laws}
+use Rattle.po_slow.proofs.Passes.{Laws, label_of}
 use Rattle.po_slow.proofs.LivenessEndings.{NoFurther, no_further_self}
 use Rattle.po_slow.proofs.LivenessFlow.{Flows, NoMore, ReadBehind, live_where, live_on, flows_where}
-use Rattle.po_slow.proofs.LivenessPass.{instrs_in, AllFit, AllStay, Current, Standing, standing_start, standing_dropped, standing_taken, standing_gone, standing_one}
-
-abbrev label_of : PlainBlock → Option Label
-label_of b = b.label
+use Rattle.po_slow.proofs.Blockwise.{instrs_in, each_block, all_blocks, same_length, label_block}
+use Rattle.po_slow.proofs.LivenessPass.{AllFit, AllStay, Current, Standing, standing_start, standing_dropped, standing_taken, standing_gone, standing_one}
 
 -- Lists of blocks
 
@@ -53,34 +50,13 @@ there_below [] b i h = absurd (omega arith)
 there_below (x ∷ xs) zero i h = omega arith
 there_below (x ∷ xs) (suc b) i h = let k = there_below xs b i h in omega arith
 
--- what holds of each block, by its place
-module _ (P : List PlainInstr → Type 0) where
-  block_all : P [] → (bs : List PlainBlock) → All (λ b. P b.instrs) bs → (b : ℕ) → P (instrs_at bs b)
-  block_all none [] h b = none
-  block_all none (x ∷ xs) h zero = All-head (λ b. P b.instrs) x xs h
-  block_all none (x ∷ xs) h (suc b) = block_all none xs (All-tail (λ b. P b.instrs) x xs h) b
-
-  all_blocks : (bs : List PlainBlock) → ((b : ℕ) → b < length bs → P (instrs_at bs b)) → All (λ b. P b.instrs) bs
-  all_blocks [] h = All-nil (λ b. P b.instrs)
-  all_blocks (x ∷ xs) h = All-cons (λ b. P b.instrs) x xs (h zero (omega arith)) (all_blocks xs (λ b l. h (suc b) (omega arith)))
-
 -- Edges
-
--- the block of a label depends on the labels alone
-same_block : (n : ℕ) (xs ys : List PlainBlock) (l : Label) → map label_of xs ≡ map label_of ys → block_from n xs l ≡ block_from n ys l
-same_block n [] [] l e = refl
-same_block n [] (y ∷ ys) l e = absurd (cc)
-same_block n (x ∷ xs) [] l e = absurd (cc)
-same_block n (x ∷ xs) (y ∷ ys) l e =
-    let here : x.label ≡ y.label = (cc) in
-    let others : map label_of xs ≡ map label_of ys = (cc) in
-    rw (here, same_block (suc n) xs ys l others) refl
 
 same_target : (xs ys : List PlainBlock) → map label_of xs ≡ map label_of ys → (e : Option (Ending ℕ Place Sym)) → target_by xs e ≡ target_by ys e
 same_target xs ys h None = refl
-same_target xs ys h (Some (GoTo l)) = same_block 0 xs ys l h
-same_target xs ys h (Some (IfCc r l)) = same_block 0 xs ys l h
-same_target xs ys h (Some (IfTwo t u r l)) = same_block 0 xs ys l h
+same_target xs ys h (Some (GoTo l)) = label_block 0 xs ys l h
+same_target xs ys h (Some (IfCc r l)) = label_block 0 xs ys l h
+same_target xs ys h (Some (IfTwo t u r l)) = label_block 0 xs ys l h
 same_target xs ys h (Some (CallOf s n)) = refl
 same_target xs ys h (Some Return) = refl
 
@@ -91,7 +67,7 @@ goes_if true true old n q h e = rw (h refl) e
 
 module _ (next code : List PlainBlock) (labels : map label_of next ≡ map label_of code) where
   as_many : length next ≡ length code
-  as_many = sym (length-map next label_of) ∙ ap length labels ∙ length-map code label_of
+  as_many = same_length next code labels
 
   -- a block whose transfer of control leads no further
   pub leads_less : (b q : ℕ) → NoFurther (ending_at next b) (ending_at code b) → leads next b q ≡ true → leads code b q ≡ true
@@ -199,7 +175,7 @@ module _ (m : Machine) (code next : List PlainBlock) (labels : map label_of next
 pub liveness_laws : (m : Machine) → IsMachine m → Laws m IsFormedCode (MakesNothingLive m) (λ code live b done rest. Standing m code b done rest)
 liveness_laws m allowed = record {
   joins = nothing_on m;
-  start = λ code live h t b l. standing_start m code b (live b) (block_all (λ xs. All WellFormed xs) (All-nil WellFormed) code h.formed b) (block_all EndsLast tt code h.ends_last b) (λ i v k. t b i v k);
+  start = λ code live h t b l. standing_start m code b (live b) (each_block (λ xs. All WellFormed xs) (All-nil WellFormed) code b h.formed) (each_block EndsLast tt code b h.ends_last) (λ i v k. t b i v k);
   dropped = λ code live h t b done x xs s d. standing_dropped m code b done x xs s d;
   taken = λ code live h t b done x xs s. standing_taken m code b done x xs s;
   gone = λ code live h t b d done x xs s i. standing_gone m code b allowed d done x xs s i;

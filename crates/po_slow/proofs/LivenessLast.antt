@@ -9,7 +9,7 @@ use Rattle.po_model.specs.Pairs.{PlainPair}
 use Rattle.po_model.specs.Combined.{Kept, Gone, AsOne, combination}
 use Rattle.po_model.specs.Scanned.{Answer, Ahead, Stand, BlockAhead, InBlock, Scan, Within, Finished, ScanStep, Tried, Ended, is_dead, onward, ready, settled, instrs_ahead, blocks_ahead, enter, Tells, IsPassStart, passed_with, AfterPass, AfterBlock, after_try, Goes, IsSlowed}
 use Rattle.po_slow.proofs.Passes.{Told, Stops, onward_stops, settled_stops, nothing_comes}
-use Rattle.po_slow.proofs.LivenessPass.{instrs_in, ahead_instrs}
+use Rattle.po_slow.proofs.Blockwise.{instrs_in, ahead_instrs}
 
 -- Within a block
 

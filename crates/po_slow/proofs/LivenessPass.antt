@@ -1,5 +1,5 @@
 -- Within a pass over a code, what is live in the code that is made was told at its start.
-use Rattle.std.proofs.Common.{◌≡◌, ℕ, zero, suc, ◌+◌, ◌<◌, Bool, true, List, [], ◌∷◌, length, drop, map, refl, sym, ◌∙◌, ap, subst, arith}
+use Rattle.std.proofs.Common.{◌≡◌, ℕ, zero, suc, ◌+◌, ◌<◌, Bool, true, List, [], ◌∷◌, length, drop, refl, sym, ◌∙◌, ap, subst, arith}
 use Rattle.std.specs.Prelude.{Option, Some, None, is_some, IsSome, IsTrue, ◌↔◌, All, ⊤}
 use Rattle.std.proofs.lemmas.List.Elements.{All-head, All-tail}
 use mathlib.Core.Logic.{inl, inr}
@@ -28,16 +28,9 @@ use Rattle.po_subst.proofs.Alike.{none_of}
 use Rattle.po_slow.specs.KeepsEffect.{InPlace, KeepsEffect}
 use Rattle.po_slow.proofs.Sound.{answer_keeps}
 use Rattle.po_slow.proofs.LivenessEndings.{NoFurther, no_further_self, no_further_than, same_ending, combination_less}
-use Rattle.po_slow.proofs.LivenessPairs.{pair_formed, pair_live}
+use Rattle.po_slow.proofs.PairWith.{pair_formed, pair_tells}
+use Rattle.po_slow.proofs.Blockwise.{instrs_in, ahead_instrs}
 use Rattle.po_slow.proofs.LivenessFlow.{Flows, NoMore, flows_past, no_more_before, flows_two, flows_before, dead_unset, dead_ending, ReadBehind, live_flows, live_where}
-
-abbrev pub instrs_in : List Ahead → List PlainInstr
-instrs_in xs = map (λ (x : Ahead). x.instr) xs
-
--- the instructions of a code that are to come are those of the code
-pub ahead_instrs : (f : ℕ → Var → Bool) (i : ℕ) (xs : List PlainInstr) → instrs_in (instrs_ahead f i xs) ≡ xs
-ahead_instrs f i [] = refl
-ahead_instrs f i (x ∷ xs) = ap (λ ys. x ∷ ys) (ahead_instrs f (suc i) xs)
 
 -- Transfers of control in a block whose instructions change
 
@@ -170,7 +163,7 @@ module _ (m : Machine) (code : List PlainBlock) (b : ℕ) where
         let ends = ends_gone t.instr x.instr (instrs_in xs) e (less Gone i) in
         record {
           stay = s.1.1;
-          no_more = λ v f. flows_two Out t.instr x.instr (instrs_in xs) x.live v (exact v) ((kept Gone i).nothing_live x.live (pair_live t.instr x) v (s.1.0.told v f));
+          no_more = λ v f. flows_two Out t.instr x.instr (instrs_in xs) x.live v (exact v) ((kept Gone i).nothing_live x.live (pair_tells t.instr x) v (s.1.0.told v f));
           last = ends.0;
           ending = ends.1;
         }
@@ -183,7 +176,7 @@ module _ (m : Machine) (code : List PlainBlock) (b : ℕ) where
     one_flows y i v (inl f) = inl f
     one_flows y i v (inr f) =
         flows_two Out t.instr x.instr (instrs_in xs) x.live v (exact v)
-        ((kept (AsOne y) i).nothing_live x.live (pair_live t.instr x) v (flows_before Out y (instrs_in xs) x.live v (s.1.0.told v) f))
+        ((kept (AsOne y) i).nothing_live x.live (pair_tells t.instr x) v (flows_before Out y (instrs_in xs) x.live v (s.1.0.told v) f))
 
     one : (y : PlainInstr) → combination m (pair_with t.instr x) ≡ AsOne y → Replaces (record { instr = y; live = x.live } ∷ xs) (t ∷ x ∷ xs)
     one y i =

@@ -90,7 +90,7 @@ nothing_comes [] rest e h = h refl
 nothing_comes (d ∷ ds) [] e h = refl
 nothing_comes (d ∷ ds) (x ∷ xs) e h = absurd (cc)
 
-abbrev label_of : PlainBlock → Option Label
+abbrev pub label_of : PlainBlock → Option Label
 label_of b = b.label
 
 labels_append : (xs ys : List PlainBlock) → map label_of (xs ++ ys) ≡ map label_of xs ++ map label_of ys

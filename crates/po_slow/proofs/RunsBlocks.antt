@@ -1,24 +1,17 @@
 -- Runs of a code and of what a pass makes of it, block by block.
-use Rattle.std.proofs.Common.{◌≡◌, ℕ, zero, suc, List, [], ◌∷◌, map, refl, sym, ◌∙◌, subst}
+use Rattle.std.proofs.Common.{◌≡◌, ℕ, zero, suc, List, map, refl, sym, ◌∙◌, subst}
 use Rattle.std.specs.Prelude.{All, Option, Some, None}
-use Rattle.std.proofs.lemmas.List.Elements.{All-head, All-tail}
 use Rattle.po_term.specs.Terms.{State}
 use Rattle.po_model.specs.declared.var.Var.{Var}
-use Rattle.po_model.specs.Blocks.{PlainInstr, PlainBlock, instrs_at, EndsLast, ending_at}
+use Rattle.po_model.specs.Blocks.{PlainBlock, instrs_at, EndsLast, ending_at}
 use Rattle.po_model.specs.Effect.{Control, Done}
 use Rattle.po_model.specs.Run.{Reply, IsReply, Call, Stop, Before, Behind, Run, leave_done, run_block, and_run, own_doings, run, LiveWhere}
 use Rattle.po_slow.specs.Passes.{IsLiveAt}
-use Rattle.po_slow.proofs.Blockwise.{label_of}
+use Rattle.po_slow.proofs.Passes.{label_of}
 use Rattle.po_slow.proofs.RunsRead.{Agree, Alike, alike_joins, agree_less, agree_self, agree_joins}
 use Rattle.po_slow.proofs.RunsReplace.{doing, Back, AreFormed, Replaces, doing_agree}
 use Rattle.po_slow.proofs.RunsWithin.{OutOf, back_live}
 use Rattle.po_slow.proofs.RunsLeave.{MayGo, block_may, Together, BothStand, leave_stands}
-
--- a fact of the instructions of each block, and of none
-pub each_block : (Q : List PlainInstr → Type 0) → Q [] → (code : List PlainBlock) (b : ℕ) → All (λ b. Q b.instrs) code → Q (instrs_at code b)
-each_block Q none [] b h = none
-each_block Q none (x ∷ xs) zero h = All-head (λ (b : PlainBlock). Q b.instrs) x xs h
-each_block Q none (x ∷ xs) (suc b) h = each_block Q none xs b (All-tail (λ (b : PlainBlock). Q b.instrs) x xs h)
 
 -- Runs that stand alike
 

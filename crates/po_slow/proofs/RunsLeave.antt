@@ -15,13 +15,14 @@ use Rattle.po_term.specs.Moves.{Ending, GoTo, IfCc, IfTwo, CallOf, Return}
 use Rattle.po_term.specs.Simplified.{reg_eq, same_register}
 use Rattle.po_model.specs.declared.var.Var.{Var}
 use Rattle.po_model.specs.declared.var.Var.TheVariants.{Reg}
-use Rattle.po_model.specs.Blocks.{PlainInstr, PlainBlock, instrs_at, EndsLast, block_ending, block_with, block_from, target_by, goes_on, is_at, ending_at, leads}
+use Rattle.po_model.specs.Blocks.{PlainInstr, PlainBlock, instrs_at, EndsLast, block_ending, block_with, target_by, goes_on, is_at, ending_at, leads}
 use Rattle.po_model.specs.Parts.{ending_of as end_of}
 use Rattle.po_model.specs.Effect.{Control, Next, Jump, Called, Returned, Done, after, branch, by_cc, goes, effect}
 use Rattle.po_model.specs.LiveAfter.{is_reg, is_cc}
 use Rattle.po_model.specs.Run.{Write, Reply, IsReply, Call, Before, Behind, Run, written, replied, if_there, stands_before, answered, leave, LiveWhere}
 use Rattle.po_subst.proofs.Reading.{left_true, right_true}
-use Rattle.po_slow.proofs.Blockwise.{label_of, same_length}
+use Rattle.po_slow.proofs.Passes.{label_of}
+use Rattle.po_slow.proofs.Blockwise.{same_length, label_block}
 use Rattle.po_slow.proofs.LivenessEndings.{same_ending}
 use Rattle.po_slow.proofs.RunsRead.{Variables, Passing, Agree, agree_less, if_fits, reg_swap}
 use Rattle.po_slow.proofs.RunsReplace.{doing, doing_next, alone}
@@ -155,15 +156,6 @@ BothStand code None (Some y) = ⊥
 BothStand code (Some x) None = ⊥
 
 -- Two codes with the same labels
-
-label_block : (n : ℕ) (xs ys : List PlainBlock) (l : Label) → map label_of xs ≡ map label_of ys → block_from n xs l ≡ block_from n ys l
-label_block n [] [] l e = refl
-label_block n [] (y ∷ ys) l e = absurd (cc)
-label_block n (x ∷ xs) [] l e = absurd (cc)
-label_block n (x ∷ xs) (y ∷ ys) l e =
-    let first : x.label ≡ y.label = (cc) in
-    let rest : map label_of xs ≡ map label_of ys = (cc) in
-    rw (first, label_block (suc n) xs ys l rest) refl
 
 module _ (code next : List PlainBlock) (labels : map label_of next ≡ map label_of code) where
   stand : (b : ℕ) (o : Option ℕ) → ((q : ℕ) → o ≡ Some q → leads code b q ≡ true) → (s t : State) (calls made : List Call) (replies : List Reply)

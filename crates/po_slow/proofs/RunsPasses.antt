@@ -12,16 +12,17 @@ use Rattle.po_model.specs.Run.{Reply, IsReply, Run, starts, run, StartAlike, Sam
 use Rattle.po_model.specs.Scanned.{Ahead, Tells, IsSlowed}
 use Rattle.po_model.specs.UnitCodes.{IsStraight}
 use Rattle.po_slow.specs.Passes.{IsFormedCode, PassesKeepRuns}
-use Rattle.po_slow.proofs.Passes.{Told, Laws, by_passes}
+use Rattle.po_slow.proofs.Passes.{Told, Laws, by_passes, label_of}
 use Rattle.po_slow.proofs.Onto.{onto_reverse}
-use Rattle.po_slow.proofs.Blockwise.{label_of, all_blocks, same_length}
+use Rattle.po_slow.proofs.Blockwise.{all_blocks, same_length}
 use Rattle.po_slow.proofs.LivenessPass.{Standing}
 use Rattle.po_slow.proofs.LivenessCode.{MakesNothingLive, liveness_laws}
 use Rattle.po_slow.proofs.RunsRead.{alike_self}
 use Rattle.po_slow.proofs.RunsReplace.{AreFormed, Replaces, doing}
 use Rattle.po_slow.proofs.RunsWithin.{OutOf, Within, within_start, within_taken, within_dropped, within_gone, within_one}
 use Rattle.po_slow.proofs.RunsLeave.{BothStand}
-use Rattle.po_slow.proofs.RunsBlocks.{RunsAs, each_block, runs_join, both_less, blocks_stand}
+use Rattle.po_slow.proofs.Blockwise.{each_block}
+use Rattle.po_slow.proofs.RunsBlocks.{RunsAs, runs_join, both_less, blocks_stand}
 use Rattle.po_slow.proofs.RunsStart.{starts_together}
 
 -- The blocks of a code in form

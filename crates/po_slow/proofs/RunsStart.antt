@@ -17,7 +17,7 @@ use Rattle.po_model.specs.UnitCodes.{written, ReadsBehind, IsStraight}
 use Rattle.po_subst.proofs.Agreeing.{reg_self}
 use Rattle.po_subst.proofs.Reading.{left_true, right_true}
 use Rattle.po_slow.proofs.RunsLeave.{Together}
-use Rattle.po_slow.proofs.RunsBlocks.{each_block}
+use Rattle.po_slow.proofs.Blockwise.{each_block}
 
 -- a list with one more in front
 contains_split : (v : ℕ) (ws : List ℕ) (k : ℕ) → Contains (v ∷ ws) k → (v ≡ k) ⊎ Contains ws k

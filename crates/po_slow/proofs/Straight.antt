@@ -22,10 +22,10 @@ use Rattle.po_subst.proofs.Reading.{unset_right}
 use Rattle.po_slow.specs.KeepsEffect.{IsLiveAfter, KeepsEffect}
 use Rattle.po_slow.specs.Passes.{IsFormedCode}
 use Rattle.po_slow.proofs.Sound.{answer_keeps}
-use Rattle.po_slow.proofs.Passes.{Told, Laws, by_passes}
+use Rattle.po_slow.proofs.Passes.{Told, Laws, by_passes, label_of}
 use Rattle.po_slow.proofs.Onto.{onto, onto_reverse}
 use Rattle.po_slow.proofs.PairWith.{pair_tells, pair_names}
-use Rattle.po_slow.proofs.Blockwise.{label_of, instrs_in, whole, ahead_instrs, block_at, all_blocks, same_length}
+use Rattle.po_slow.proofs.Blockwise.{instrs_in, whole, ahead_instrs, block_at, all_blocks, same_length}
 use Rattle.po_slow.proofs.Distinct.{IsDistinct, Within, nothing_in, distinct_nil, distinct_split, distinct_append, within_append, Parted, parted, distinct_replaced}
 use Rattle.po_slow.proofs.Virtuals.{virtual, written_if_set, set_if_written, written_once, dead_unset, read_in, read_live, behind_by, set_by, written_onto, behind_replaced}
 use Rattle.po_slow.proofs.Forms.{Formed, Stays, StaysAt, stays_pair, stays_at_start, kept_form, form_laws}

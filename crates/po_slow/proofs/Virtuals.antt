@@ -1,6 +1,6 @@
 -- The virtual registers that instructions set and read.
 use Rattle.std.proofs.Common.{◌≡◌, ℕ, Bool, true, false, List, [], ◌∷◌, ◌++◌, refl, sym, ◌∙◌, ap, arith}
-use Rattle.std.specs.Prelude.{All, AllPairs, Contains, not, ◌||◌, ◌&&◌, ◌==◌}
+use Rattle.std.specs.Prelude.{All, AllPairs, Contains, ◌||◌, ◌==◌}
 use Rattle.std.specs.List.{list_any}
 use Rattle.std.proofs.lemmas.Bool.{false≢true, eqb-true}
 use Rattle.std.proofs.lemmas.List.{append_assoc}
@@ -13,12 +13,13 @@ use Rattle.po_term.specs.Moves.{GoTo, IfCc, IfTwo, CallOf, Return, SetTo, CcTo, 
 use Rattle.po_term.specs.Form.{GoesBefore}
 use Rattle.po_term.proofs.FormLemmas.{pairs_more}
 use Rattle.po_model.specs.declared.var.Var.{Var}
-use Rattle.po_model.specs.declared.var.Var.TheVariants.{Reg, Cc}
+use Rattle.po_model.specs.declared.var.Var.TheVariants.{Reg}
 use Rattle.po_model.specs.Blocks.{PlainInstr, PlainBlock}
 use Rattle.po_model.specs.LiveAfter.{reads, sets, IsRead}
 use Rattle.po_model.specs.Scanned.{is_dead}
 use Rattle.po_model.specs.UnitCodes.{written, all_written, ReadsBehind}
 use Rattle.po_subst.proofs.Reading.{left_true, right_true}
+use Rattle.po_slow.proofs.LivenessFlow as flow
 use Rattle.po_slow.proofs.Onto.{onto}
 use Rattle.po_slow.proofs.Distinct.{Differ, IsDistinct, distinct_nil, distinct_cons, contains_more, contains_cases, nothing_in}
 
@@ -89,25 +90,9 @@ written_once (CcTo t u ∷ ms) h = written_once ms ((pairs_more GoesBefore (CcTo
 written_once (StoreTo t u ∷ ms) h = written_once ms ((pairs_more GoesBefore (StoreTo t u) ms).0 h).1
 written_once (Ends e ∷ ms) h = written_once ms ((pairs_more GoesBefore (Ends e) ms).0 h).1
 
-second_true : (x y : Bool) → (x && y) ≡ true → y ≡ true
-second_true true y e = e
-second_true false y e = absurd (false≢true e)
-
 -- what a dead instruction sets isn't live
 pub dead_unset : (live : Var → Bool) (ms : PlainInstr) (v : ℕ) → is_dead live ms ≡ true → Contains (written ms) v → live (virtual v) ≡ true → ⊥
-dead_unset live [] v e c l = nothing_in v c
-dead_unset live (SetTo (Virt w) t ∷ ms) v e c l = go (live (virtual w)) refl e (contains_cases w (written ms) v c) (dead_unset live ms v)
-  where
-    go : (b : Bool) → live (virtual w) ≡ b → (not b && is_dead live ms) ≡ true → (w ≡ v) ⊎ Contains (written ms) v → (is_dead live ms ≡ true → Contains (written ms) v → live (virtual v) ≡ true → ⊥) → ⊥
-    go true i e h ih = false≢true e
-    go false i e (inl k) ih = false≢true (sym i ∙ ap (λ n. live (virtual n)) k ∙ l)
-    go false i e (inr k) ih = ih e k l
-dead_unset live (SetTo Fp t ∷ ms) v e c l = dead_unset live ms v (second_true (not (live (Reg Fp))) (is_dead live ms) e) c l
-dead_unset live (SetTo Rv t ∷ ms) v e c l = dead_unset live ms v (second_true (not (live (Reg Rv))) (is_dead live ms) e) c l
-dead_unset live (SetTo (Arg k) t ∷ ms) v e c l = dead_unset live ms v (second_true (not (live (Reg (Arg k)))) (is_dead live ms) e) c l
-dead_unset live (CcTo t u ∷ ms) v e c l = dead_unset live ms v (second_true (not (live Cc)) (is_dead live ms) e) c l
-dead_unset live (StoreTo t u ∷ ms) v e c l = absurd (false≢true e)
-dead_unset live (Ends x ∷ ms) v e c l = absurd (false≢true e)
+dead_unset live ms v e c l = false≢true (sym (flow.dead_unset live ms (virtual v) e l) ∙ set_if_written ms v c)
 
 -- What instructions read
 

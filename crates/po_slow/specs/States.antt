@@ -2,14 +2,18 @@
 --
 -- A block is scanned in place: its first instructions are those that are done, its last ones those that are to come, and what lies
 -- between them is left over.
-use Rattle.std.specs.Prelude.{ℕ, suc, ◌≡◌, ◌≤◌, Bool, List, [], ◌∷◌, ◌++◌, map, reverse, take, drop, length, All, Option, Some, None, ⊤}
+use Rattle.std.specs.Prelude.{ℕ, suc, ◌≡◌, ◌≤◌, ◌<◌, Bool, List, [], ◌∷◌, ◌++◌, map, reverse, take, drop, length, All, Option, Some, None, ⊤}
+use Rattle.std.specs.Global.{Vec}
 use Rattle.po_term.specs.Form.{WellFormed}
+use Rattle.po_model.specs.declared.pair.Live.{Live}
+use Rattle.po_model.specs.declared.machine.Machine.{Machine}
 use Rattle.po_model.specs.declared.var.Var.{Var}
 use Rattle.po_model.specs.Blocks.{PlainInstr, PlainBlock, code_of, instrs_at, ending_of, EndsLast}
 use Rattle.po_model.specs.LiveSets.{holds_at, lives_at}
 use Rattle.po_model.specs.Pairs.{PlainPair, pair_of, WellFormedPair}
-use Rattle.po_model.specs.Combined.{Kept, Gone, AsOne}
-use Rattle.po_model.specs.Scanned.{Answer, Stand, InBlock, Scan, Within, Finished, instrs_ahead, blocks_ahead, ready, pair_ready}
+use Rattle.po_model.specs.Combined.{Kept, Gone, AsOne, combination}
+use Rattle.po_model.specs.Scanned.{Answer, Ahead, Stand, InBlock, Scan, Within, Finished, instrs_ahead, blocks_ahead, ready, settled, pair_ready, after_try}
+use Rattle.po_slow.specs.declared.block.Standing.{Standing}
 use Rattle.po_slow.specs.declared.state.Ask.{Ask}
 use Rattle.po_slow.specs.declared.state.Ask.TheVariants as ask
 use Rattle.po_slow.specs.declared.state.ScanState.{ScanState}
@@ -21,6 +25,15 @@ use Rattle.po_slow.specs.Passes.{IsFormedCode}
 abbrev pub stand_at : List PlainInstr → (ℕ → Var → Bool) → ℕ → ℕ → Bool → Stand
 stand_at xs live done next changed = record { done = reverse (take done xs); rest = instrs_ahead live next (drop next xs); changed = changed }
 
+-- on from there
+abbrev pub on : (List PlainInstr → List Ahead → Bool → Stand) → Stand → Stand
+on f s = f s.done s.rest s.changed
+
+-- the next instruction is done
+abbrev pub take_next : List PlainInstr → List Ahead → Bool → Stand
+take_next done [] changed = record { done = done; rest = []; changed = changed }
+take_next done (x ∷ xs) changed = record { done = x.instr ∷ done; rest = xs; changed = changed }
+
 -- where the scan of a code stands in the first of these blocks, the b-th of the code; at the finish where there is none
 abbrev pub place_in : (ℕ → ℕ → Var → Bool) → ℕ → ℕ → ℕ → Bool → List PlainBlock → List PlainBlock → Scan
 place_in live b done next changed passed [] = Finished (reverse passed)
@@ -30,9 +43,22 @@ place_in live b done next changed passed (x ∷ xs) = Within (record { label = x
 abbrev pub place_at : List PlainBlock → (ℕ → ℕ → Var → Bool) → ℕ → ℕ → ℕ → Bool → Scan
 place_at code live b done next changed = place_in live b done next changed (reverse (take b code)) (drop b code)
 
+-- what is live by these sets
+abbrev pub told : List (Vec Live) → ℕ → ℕ → Var → Bool
+told lives b = holds_at (lives_at lives b)
+
+-- where it stands in the b-th block, with these live sets
+abbrev pub place_of : List PlainBlock → List (Vec Live) → ℕ → Standing → Scan
+place_of code lives b at = place_at code (told lives) b at.done at.next at.changed
+
 -- where the scan of a ScanState stands
 abbrev pub scan_of : ScanState → Scan
-scan_of s = place_at (code_of s.code) (λ b. holds_at (lives_at s.lives.after.items b)) s.block s.at.done s.at.next s.at.changed
+scan_of s = place_of (code_of s.code) s.lives.after.items s.block s.at
+
+-- on within the block
+abbrev pub within : (Stand → Stand) → Scan → Scan
+within f (Within s) = Within (record { label = s.label; stand = f s.stand; passed = s.passed; coming = s.coming })
+within f (Finished code) = Finished code
 
 -- What is asked
 
@@ -59,6 +85,23 @@ CanAnswer (Some p) Kept = ⊤
 CanAnswer (Some p) Gone = ⊤
 CanAnswer (Some p) (AsOne y) = WellFormed y × (ending_of p.b ≡ None → ending_of y ≡ None)
 
+-- the answer of slow combination for the pair that is ready
+abbrev pub IsAnswer : Machine → Option PlainPair → Answer → Type 0
+IsAnswer m None o = ⊥
+IsAnswer m (Some p) o = o ≡ combination m p
+
+-- the pair that is ready was tried, within a block
+pub record IsTriedIn (m : Machine) (s t : Stand) : Type 0 where
+  pub outcome : Answer
+  pub is_answer : IsAnswer m (ready s.done s.rest) outcome
+  pub goes_on : t ≡ on (settled outcome) s
+
+-- the pair that is ready was tried
+pub record IsTried (m : Machine) (s t : Scan) : Type 0 where
+  pub outcome : Answer
+  pub is_answer : IsAnswer m (pair_ready s) outcome
+  pub goes_on : t ≡ after_try outcome s
+
 -- What every ScanState has
 
 -- the instructions of a block that is scanned: those that are done, and those that are to come
@@ -82,10 +125,19 @@ IsFormedScan (Within s) = IsFormedBlock s
 IsFormedScan (Finished code) = IsFormedCode code
 
 -- the scan stands within the code, and there is a live set for each instruction of the block and of those to come
+pub record IsPlaced (code : List PlainBlock) (lives : List (Vec Live)) (b : ℕ) (at : Standing) : Type 0 where
+  pub blocks : b ≤ length code
+  pub sets : length lives ≡ length code
+  pub lengths : (c : ℕ) → b ≤ c → length (lives_at lives c) ≡ length (instrs_at code c)
+  pub done : at.done ≤ at.next
+  pub next : at.next ≤ length (instrs_at code b)
+
+-- a pair is ready in the b-th block
+pub record HasPair (code : List PlainBlock) (b : ℕ) (at : Standing) : Type 0 where
+  pub block : b < length code
+  pub done : 0 < at.done
+  pub next : at.next < length (instrs_at code b)
+
 pub record IsFormedState (s : ScanState) : Type 0 where
-  pub blocks : s.block ≤ length (code_of s.code)
-  pub sets : length s.lives.after.items ≡ length (code_of s.code)
-  pub lives : (b : ℕ) → s.block ≤ b → length (lives_at s.lives.after.items b) ≡ length (instrs_at (code_of s.code) b)
-  pub done : s.at.done ≤ s.at.next
-  pub next : s.at.next ≤ length (instrs_at (code_of s.code) s.block)
-  pub scan : IsFormedScan (scan_of s)
+  pub placed : IsPlaced (code_of s.code) s.lives.after.items s.block s.at
+  pub formed : IsFormedScan (scan_of s)

@@ -3,14 +3,18 @@
 //! `pair` answers for one pair: the two are joined (`po_subst`), and the joint list has to fit an entry of the machine (`po_recog`).
 #![tactic(auto)]
 
+mod block;
 mod laws;
+mod live;
 #[cfg(test)]
 mod machine;
 mod pair;
+mod ready;
 mod state;
 #[cfg(test)]
 mod tests;
 mod unit;
+mod within;
 
 pub use laws::{
     combination_keeps_effect, dead_leaves_no_trace, passes_keep_fit, passes_keep_form,

@@ -6,6 +6,7 @@ ghost use Rattle.po_model.specs.Scanned.{Finished, IsPassStart, AfterEnd, pair_r
 ghost use Rattle.po_slow.specs.Passes.{IsFormedCode};
 ghost use Rattle.po_slow.specs.States.{scan_of, Asks, CanAnswer, IsAtEnd, IsFinished, IsFormedState};
 
+use crate::block::Standing;
 use po_live::Lives;
 use po_model::{Code, Outcome, Pair};
 use po_word::OutOfMemory;
@@ -20,17 +21,6 @@ pub enum Ask {
     BlockEnd,
     /// Nothing any more: the scan is at its finish.
     Finished,
-}
-
-/// Where the scan of a block stands.
-#[derive(Clone, Copy, Debug, PartialEq, Eq)]
-pub(crate) struct Standing {
-    /// How many of the block's instructions, its first ones, are done.
-    pub done: usize,
-    /// The index of the next instruction. What lies before it and isn't done is left over.
-    pub next: usize,
-    /// Whether the pass has dropped or combined anything.
-    pub changed: bool,
 }
 
 /// Where the scan of a code stands (docs/OPTIMISER.md, "The scan"). Contracts see it as that place, by `scan_of`.

@@ -1,7 +1,5 @@
 use Rattle.std.proofs.Common.{◌≡◌, ℕ, ◌<◌, Bool, List, length, get_or, sym, ap}
-use Rattle.po_model.specs.declared.pair.Live.{Live}
-use Rattle.po_model.specs.declared.var.Var.TheVariants.{Cc}
-use Rattle.po_model.specs.LiveSets.{holds_at, lives_at}
+use Rattle.po_live.specs.Flags.{flag_at, flags_at}
 use Rattle.po_model.specs.UnitCodes.{unit_of}
 use Rattle.po_emit.specs.Regs.{machine_at}
 use Rattle.po_emit.proofs.Turns.{blocks_turn}
@@ -12,9 +10,9 @@ loop-b-preserved c =
     let bs = c.args.u.now.code.blocks.items in
     let j = c.loop-b.b in
     let block = c.block-item.result in
-    let live : ℕ → ℕ → Bool = λ b i. holds_at (lives_at c.args.lives.now b) i Cc in
+    let live : ℕ → ℕ → Bool = λ b i. flag_at (flags_at c.args.lives.now b) i in
     let h : j < length bs = rw (← c.deref-block-items.ensures.value) c.loop-b-test.true in
     let e : block ≡ get_or bs j block = rw (← c.deref-block-items.ensures.value) c.block-item.is in
-    let there = λ (i : ℕ). ap (λ (ls : List Live). holds_at ls i Cc) (sym c.lives_at.ensures) in
+    let there = λ (i : ℕ). ap (λ (fs : List Bool). flag_at fs i) (sym c.flags_at.ensures) in
     blocks_turn c.args.m.now (machine_at c.args.regs.now) (unit_of c.args.u.now) live bs j block c.loop-b.out.items c.push_block.new.out.items _ h e
     (c.in_ok-push_block.ensures live j there) c.loop-b.invariant

@@ -1,7 +1,6 @@
 use Rattle.std.proofs.Common.{◌≡◌, ◌++◌, drop, map}
-use Rattle.po_model.specs.declared.var.Var.TheVariants.{Cc}
 use Rattle.po_model.specs.Blocks.{block_of}
-use Rattle.po_model.specs.LiveSets.{holds_at, lives_at}
+use Rattle.po_live.specs.Flags.{flag_at, flags_at}
 use Rattle.po_model.specs.UnitCodes.{unit_of}
 use Rattle.po_model.specs.Assembly.{blocks_from}
 use Rattle.po_emit.specs.Regs.{machine_at}
@@ -10,5 +9,5 @@ use Rattle.po_emit.proofs.unit.push_blocks.Given as goal
 -- the lines so far, and then those of the blocks behind
 abbrev pub invariant-loop-b : goal.invariant-loop-b
 invariant-loop-b l =
-    l.out.items ++ blocks_from l.m (machine_at l.regs) (unit_of l.u) (λ b i. holds_at (lives_at l.lives b) i Cc) l.b (map block_of (drop l.b l.u.code.blocks.items))
-    ≡ l.fn.out.items ++ blocks_from l.m (machine_at l.regs) (unit_of l.u) (λ b i. holds_at (lives_at l.lives b) i Cc) 0 (map block_of l.u.code.blocks.items)
+    l.out.items ++ blocks_from l.m (machine_at l.regs) (unit_of l.u) (λ b i. flag_at (flags_at l.lives b) i) l.b (map block_of (drop l.b l.u.code.blocks.items))
+    ≡ l.fn.out.items ++ blocks_from l.m (machine_at l.regs) (unit_of l.u) (λ b i. flag_at (flags_at l.lives b) i) 0 (map block_of l.u.code.blocks.items)

@@ -1,5 +1,4 @@
 use Rattle.std.proofs.Common.{arith}
-use Rattle.po_model.specs.declared.var.Var.TheVariants.{Cc}
 use Rattle.po_model.specs.Blocks.{code_of}
 use Rattle.po_expand.proofs.Recognised.{block_few, checked}
 use Rattle.po_expand.proofs.fitting.check.Goals as goal
@@ -9,5 +8,5 @@ check_blocks-requires-clause-few_instrs c = λ b. rw c.deref.ensures.value (let 
 
 pub returns : goal.returns
 returns c =
-    checked c.args.m.now (code_of c.args.u.now.code) c.in-Ok.lives.after.items c.check_blocks.result (λ b i h. c.in-Ok.ensures.live b i Cc h)
+    checked c.args.m.now (code_of c.args.u.now.code) c.in-Ok.lives.after.items c.check_blocks.result (λ b i h. c.in-Ok.ensures.live b i h)
     (rw (← c.deref-2.ensures.value, ← c.deref.ensures.value) c.check_blocks.ensures)

@@ -1,0 +1,118 @@
+-- Within one block of a code, whose instructions are written.
+use Rattle.std.proofs.Common.{◌≡◌, ℕ, zero, suc, ◌+◌, ◌<◌, ◌≤◌, Bool, List, [], ◌∷◌, ◌++◌, length, map, reverse, take, drop, set, get_or, refl, sym, ◌∙◌, ap, subst, arith}
+use Rattle.std.specs.Global.{Vec}
+use Rattle.std.specs.Vec.{with_items}
+use Rattle.std.proofs.lemmas.List.{length-set, length-map, map-set, take-set, drop-set, drop_more, with_items_is, get_or-map}
+use Rattle.po_term.specs.declared.transfer.Instr.{Instr}
+use Rattle.po_term.specs.Moves.{instr_of, instrs_of}
+use Rattle.po_model.specs.declared.code.Block.{Block}
+use Rattle.po_model.specs.declared.machine.Machine.{Machine}
+use Rattle.po_model.specs.declared.pair.Live.{Live}
+use Rattle.po_model.specs.declared.var.Var.{Var}
+use Rattle.po_model.specs.Blocks.{PlainInstr, PlainBlock, block_of, instrs_at}
+use Rattle.po_model.specs.LiveSets.{holds_at, lives_at}
+use Rattle.po_model.specs.Scanned.{Answer, Stand, Scan, Within, Finished, settled, after_try, ready, pair_ready, instrs_ahead, blocks_ahead}
+use Rattle.po_slow.specs.declared.block.Standing.{Standing}
+use Rattle.po_slow.specs.States.{stand_at, on, place_in, place_at, told, place_of, within, IsAnswer, IsTriedIn, IsTried, IsPlaced}
+
+-- the sets and the instructions of the b-th block
+pub lives_get : (lives : List (Vec Live)) (b : ℕ) (v : Vec Live) → b < length lives → lives_at lives b ≡ (get_or lives b v).items
+lives_get [] b v h = absurd (omega arith)
+lives_get (x ∷ xs) zero v h = refl
+lives_get (x ∷ xs) (suc b) v h = lives_get xs b v (omega arith)
+
+pub instrs_get : (blocks : List Block) (b : ℕ) (x : Block) → b < length blocks → instrs_at (map block_of blocks) b ≡ instrs_of (get_or blocks b x).instrs.items
+instrs_get [] b x h = absurd (omega arith)
+instrs_get (y ∷ ys) zero x h = refl
+instrs_get (y ∷ ys) (suc b) x h = instrs_get ys b x (omega arith)
+
+-- how many instructions each block has stays where it stays in the block that is written
+pub lengths_set : (blocks : List Block) (b : ℕ) (x : Block) → length (instrs_of x.instrs.items) ≡ length (instrs_at (map block_of blocks) b) → (c : ℕ) → length (instrs_at (map block_of (set blocks b x)) c) ≡ length (instrs_at (map block_of blocks) c)
+lengths_set [] b x h c = refl
+lengths_set (y ∷ ys) zero x h zero = h
+lengths_set (y ∷ ys) zero x h (suc c) = refl
+lengths_set (y ∷ ys) (suc b) x h zero = refl
+lengths_set (y ∷ ys) (suc b) x h (suc c) = lengths_set ys b x h c
+
+-- the block of a code that is written
+place_set : (code : List PlainBlock) (live : ℕ → ℕ → Var → Bool) (b done next done' next' : ℕ) (changed changed' : Bool) (x : PlainBlock) (ys : List PlainInstr) (f : Stand → Stand) → b < length code → x ≡ get_or code b x
+    → stand_at ys (live b) done' next' changed' ≡ f (stand_at x.instrs (live b) done next changed)
+    → place_at (set code b (record { label = x.label; instrs = ys })) live b done' next' changed' ≡ within f (place_at code live b done next changed)
+place_set code live b done next done' next' changed changed' x ys f h e s =
+    let z : PlainBlock = record { label = x.label; instrs = ys } in
+    let old : drop b code ≡ x ∷ drop (b + 1) code = drop_more code b x h ∙ ap (λ y. y ∷ drop (b + 1) code) (sym e) in
+    (λ i. place_in live b done' next' changed' (reverse (take-set code b z i)) (drop-set code b z h i))
+    ∙ (ap (λ st. Within (record { label = x.label; stand = st; passed = reverse (take b code); coming = blocks_ahead live (suc b) (drop (b + 1) code) })) s
+    ∙ ap (λ l. within f (place_in live b done next changed (reverse (take b code)) l)) (sym old))
+
+-- on from the pair that is ready
+pub settled_within : (o : Answer) (s : Scan) → within (on (settled o)) s ≡ after_try o s
+settled_within o (Within s) = refl
+settled_within o (Finished code) = refl
+
+module _ (blocks : List Block) (lives : List (Vec Live)) (b : ℕ) (r : Block) (v : Vec Live) where
+  abbrev here : Block
+  here = get_or blocks b r
+
+  abbrev pub written : List Instr → List Block
+  written ws = set blocks b (record { label = here.label; instrs = with_items here.instrs ws })
+
+  -- how many instructions and sets there are
+  pub instrs_here : (xs : List Instr) → b < length blocks → xs ≡ here.instrs.items → length (instrs_at (map block_of blocks) b) ≡ length xs
+  instrs_here xs h x_is = ap length (instrs_get blocks b r h) ∙ (length-map here.instrs.items instr_of ∙ ap length (sym x_is))
+
+  pub sets_here : (xs : List Instr) (ls : List Live) (at : Standing) → b < length blocks → xs ≡ here.instrs.items → ls ≡ (get_or lives b v).items → IsPlaced (map block_of blocks) lives b at → length ls ≡ length xs
+  sets_here xs ls at h x_is l_is p = ap length (l_is ∙ sym (lives_get lives b v (omega (arith, p.sets, length-map blocks block_of)))) ∙ (p.lengths b (omega arith) ∙ instrs_here xs h x_is)
+
+  -- what was written is there
+  items_written : (ws xs : List Instr) → length ws ≡ length xs → xs ≡ here.instrs.items → (with_items here.instrs ws).items ≡ ws
+  items_written ws xs n x_is = with_items_is here.instrs ws (n ∙ (ap length x_is ∙ sym here.instrs.ok.0))
+
+  pub place_written : (ws xs : List Instr) (ls : List Live) (at at' : Standing) (f : Stand → Stand) → b < length blocks → length ws ≡ length xs → xs ≡ here.instrs.items → ls ≡ (get_or lives b v).items → IsPlaced (map block_of blocks) lives b at
+      → stand_at (instrs_of ws) (holds_at ls) at'.done at'.next at'.changed ≡ f (stand_at (instrs_of xs) (holds_at ls) at.done at.next at.changed)
+      → place_of (map block_of (written ws)) lives b at' ≡ within f (place_of (map block_of blocks) lives b at)
+  place_written ws xs ls at at' f h n x_is l_is p s =
+      let live : ls ≡ lives_at lives b = l_is ∙ sym (lives_get lives b v (omega (arith, p.sets, length-map blocks block_of))) in
+      let stands : stand_at (instrs_of ws) (told lives b) at'.done at'.next at'.changed ≡ f (stand_at (instrs_of here.instrs.items) (told lives b) at.done at.next at.changed)
+      = ap (λ l. stand_at (instrs_of ws) (holds_at l) at'.done at'.next at'.changed) (sym live) ∙ (s ∙ (λ i. f (stand_at (instrs_of (x_is i)) (holds_at (live i)) at.done at.next at.changed))) in
+      let new : map block_of (written ws) ≡ set (map block_of blocks) b (record { label = here.label; instrs = instrs_of ws })
+      = map-set block_of blocks b (record { label = here.label; instrs = with_items here.instrs ws }) ∙ ap (λ is. set (map block_of blocks) b (record { label = here.label; instrs = instrs_of is })) (items_written ws xs n x_is) in
+      let old : block_of here ≡ get_or (map block_of blocks) b (block_of here) = sym (get_or-map block_of blocks b r (block_of here) h) in
+      ap (λ code. place_of code lives b at') new ∙ place_set (map block_of blocks) (told lives) b at.done at.next at'.done at'.next at.changed at'.changed (block_of here) (instrs_of ws) f (omega (arith, length-map blocks block_of)) old stands
+
+  pub placed_written : (ws xs : List Instr) (at at' : Standing) → b < length blocks → length ws ≡ length xs → xs ≡ here.instrs.items
+      → IsPlaced (map block_of blocks) lives b at → at'.done ≤ at'.next → at'.next ≤ length ws → IsPlaced (map block_of (written ws)) lives b at'
+  placed_written ws xs at at' h n x_is p d i =
+      let x : Block = record { label = here.label; instrs = with_items here.instrs ws } in
+      let count : length (map block_of (written ws)) ≡ length (map block_of blocks) = length-map (written ws) block_of ∙ (length-set blocks b x ∙ sym (length-map blocks block_of)) in
+      let now : length (instrs_of (with_items here.instrs ws).items) ≡ length ws = length-map (with_items here.instrs ws).items instr_of ∙ ap length (items_written ws xs n x_is) in
+      let before : length (instrs_at (map block_of blocks) b) ≡ length ws = ap length (instrs_get blocks b r h) ∙ (length-map here.instrs.items instr_of ∙ (ap length (sym x_is) ∙ sym n)) in
+      let same = lengths_set blocks b x (now ∙ sym before) in
+      record {
+        blocks = omega (arith, p.blocks);
+        sets = p.sets ∙ sym count;
+        lengths = λ c le. p.lengths c le ∙ sym (same c);
+        done = d;
+        next = omega (arith, same b);
+      }
+
+  -- the pair that is ready in the block
+  pub ready_here : (xs : List Instr) (ls : List Live) (at : Standing) → b < length blocks → xs ≡ here.instrs.items → ls ≡ (get_or lives b v).items → IsPlaced (map block_of blocks) lives b at
+      → ready (reverse (take at.done (instrs_of xs))) (instrs_ahead (holds_at ls) at.next (drop at.next (instrs_of xs))) ≡ pair_ready (place_of (map block_of blocks) lives b at)
+  ready_here xs ls at h x_is l_is p =
+      let live : ls ≡ lives_at lives b = l_is ∙ sym (lives_get lives b v (omega (arith, p.sets, length-map blocks block_of))) in
+      let code = map block_of blocks in
+      let same : get_or code b (block_of here) ≡ block_of here = get_or-map block_of blocks b r (block_of here) h in
+      let old : drop b code ≡ block_of here ∷ drop (b + 1) code = drop_more code b (block_of here) (omega (arith, length-map blocks block_of)) ∙ ap (λ y. y ∷ drop (b + 1) code) same in
+      (λ i. ready (reverse (take at.done (instrs_of (x_is i)))) (instrs_ahead (holds_at (live i)) at.next (drop at.next (instrs_of (x_is i)))))
+      ∙ ap (λ l. pair_ready (place_in (told lives) b at.done at.next at.changed (reverse (take b code)) l)) (sym old)
+
+  -- the pair that is ready in the block was tried
+  pub tried_written : (m : Machine) (ws xs : List Instr) (ls : List Live) (at at' : Standing) → b < length blocks → length ws ≡ length xs → xs ≡ here.instrs.items → ls ≡ (get_or lives b v).items → IsPlaced (map block_of blocks) lives b at
+      → IsTriedIn m (stand_at (instrs_of xs) (holds_at ls) at.done at.next at.changed) (stand_at (instrs_of ws) (holds_at ls) at'.done at'.next at'.changed)
+      → IsTried m (place_of (map block_of blocks) lives b at) (place_of (map block_of (written ws)) lives b at')
+  tried_written m ws xs ls at at' h n x_is l_is p t = record {
+    outcome = t.outcome;
+    is_answer = subst (λ r. IsAnswer m r t.outcome) (ready_here xs ls at h x_is l_is p) t.is_answer;
+    goes_on = place_written ws xs ls at at' (on (settled t.outcome)) h n x_is l_is p t.goes_on ∙ settled_within t.outcome (place_of (map block_of blocks) lives b at);
+  }

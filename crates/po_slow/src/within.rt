@@ -1,0 +1,66 @@
+//! Within one block of a code.
+ghost use Rattle.std.specs.Prelude.{◌≡◌, ◌<◌, ◌+◌, ◌^◌, length, map, IfOk, OnOk, reverse, take, drop};
+ghost use Rattle.po_model.specs.Blocks.{block_of};
+ghost use Rattle.po_model.specs.Combined.{combination_of};
+ghost use Rattle.po_model.specs.Scanned.{onward, after_try};
+ghost use Rattle.po_slow.specs.States.{place_of, within, on, IsPlaced, HasPair, IsTried};
+
+use crate::block::{Standing, go_on, settle};
+use crate::ready::try_pair;
+use po_model::{Block, Live, Machine, Outcome, Steps};
+use po_word::OutOfMemory;
+use std::alloc::Global;
+use std::sync::ledger::Ledger;
+
+/// On to the next pair of the b-th block, or to its end.
+pub fn go_on_within(
+    alloc: Global,
+    blocks: &mut [Block],
+    lives: &[Vec<Live>],
+    b: usize,
+    at: &mut Standing,
+)
+    requires block { b < length blocks.old }
+    requires placed { IsPlaced (map block_of blocks.old) lives.now b at.old }
+    ensures place { place_of (map block_of blocks.new) lives.now b at.new ≡ within (on onward) (place_of (map block_of blocks.old) lives.now b at.old) }
+    ensures placed { IsPlaced (map block_of blocks.new) lives.now b at.new }
+{
+    go_on(alloc, &mut blocks[b].instrs, &lives[b], at);
+}
+
+/// On from the pair that is ready in the b-th block, by what becomes of it.
+pub fn settle_within(
+    alloc: Global,
+    blocks: &mut [Block],
+    lives: &[Vec<Live>],
+    b: usize,
+    at: &mut Standing,
+    o: Outcome,
+)
+    requires ready { HasPair (map block_of blocks.old) b at.old }
+    requires placed { IsPlaced (map block_of blocks.old) lives.now b at.old }
+    ensures place { place_of (map block_of blocks.new) lives.now b at.new ≡ after_try (combination_of o) (place_of (map block_of blocks.old) lives.now b at.old) }
+    ensures placed { IsPlaced (map block_of blocks.new) lives.now b at.new }
+{
+    settle(alloc, &mut blocks[b].instrs, &lives[b], at, o);
+}
+
+/// Tries the pair that is ready in the b-th block, and goes on from it. A step is counted.
+pub fn try_within<L: Ledger>(
+    alloc: Global,
+    m: &Machine,
+    blocks: &mut [Block],
+    lives: &[Vec<Live>],
+    b: usize,
+    at: &mut Standing,
+    steps: &mut Steps<L>,
+) -> Result<(), OutOfMemory>
+    requires entries { length m.now.entries < 2 ^ 32 }
+    requires ready { HasPair (map block_of blocks.old) b at.old }
+    requires placed { IsPlaced (map block_of blocks.old) lives.now b at.old }
+    ensures tried { OnOk result (IsTried m.now (place_of (map block_of blocks.old) lives.now b at.old) (place_of (map block_of blocks.new) lives.now b at.new)) }
+    ensures placed { IsPlaced (map block_of blocks.new) lives.now b at.new }
+    ensures counted { OnOk result (steps.new ≡ steps.old + 1) }
+{
+    try_pair(alloc, m, &mut blocks[b].instrs, &lives[b], at, steps)
+}
