@@ -20,6 +20,3 @@ any_instr f (x ∷ xs) = ap (λ b. f (instr_of x) || b) (any_instr f xs)
 -- the same at the end of a loop
 pub all_moves_seen : (f : PlainMove → Bool) (xs : List Transfer) (i : ℕ) → i ≡ length xs → list_any (λ t. f (move_of t)) (take i xs) ≡ list_any f (moves_of xs)
 all_moves_seen f xs i e = ap (λ (ys : List Transfer). list_any (λ t. f (move_of t)) ys) (ap (λ j. take j xs) e ∙ take-length xs) ∙ sym (any_move f xs)
-
-pub all_instrs_seen : (f : PlainInstr → Bool) (xs : List Instr) (i : ℕ) → i ≡ length xs → list_any (λ x. f (instr_of x)) (take i xs) ≡ list_any f (instrs_of xs)
-all_instrs_seen f xs i e = ap (λ (ys : List Instr). list_any (λ x. f (instr_of x)) ys) (ap (λ j. take j xs) e ∙ take-length xs) ∙ sym (any_instr f xs)
