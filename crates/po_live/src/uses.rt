@@ -1,5 +1,5 @@
 //! What instructions read and set, and the walk back through them: from what is live behind an instruction to what is live before it.
-ghost use Rattle.std.specs.Prelude.{◌≡◌, ℕ, OnOk, IfOk, not, true, false, ◌||◌, ◌&&◌, map};
+ghost use Rattle.std.specs.Prelude.{◌≡◌, ℕ, OnOk, IfOk, not, true, false, ◌||◌, ◌&&◌, map, reverse};
 ghost use Rattle.std.specs.List.{list_any};
 ghost use Rattle.po_term.specs.Terms.{tree_of};
 ghost use Rattle.po_term.specs.Moves.{move_of, moves_of, instr_of, instrs_of};
@@ -169,13 +169,14 @@ fn instr_sets(x: &Instr, v: Var) -> bool
 }
 
 fn one_of_them_sets(xs: &[Instr], v: Var) -> bool
-    ensures { result ≡ list_any (λ x. sets (instr_of x) v) xs.now }
+    ensures { result ≡ list_any (λ x. sets (instr_of x) v) (reverse xs.now) }
 {
-    xs.iter().any(|x| instr_sets(x, v))
+    xs.iter().rev().any(|x| instr_sets(x, v))
 }
 
-/// Whether one of the instructions sets v.
-#[tactic(auto, using(crate::proofs::Moved::any_instr))]
+/// Whether one of the instructions sets v. It is asked of what is live behind them, and goes back to the last one that does, over
+/// instructions after which v is live: so all these questions cost no more than the sets that are written down.
+#[tactic(auto, using(crate::proofs::Moved::any_instr_back))]
 pub fn some_sets(xs: &[Instr], v: Var) -> bool
     ensures { result ≡ sets_any (instrs_of xs.now) v }
 {
