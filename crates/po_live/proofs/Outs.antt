@@ -26,28 +26,8 @@ set_put (x ∷ xs) (suc p) n v h e zero q = rw (suc_zero p) refl
 set_put (x ∷ xs) (suc p) n v h e (suc b) q = rw (suc_suc p b) (set_put xs p n v (omega arith) e b q)
 
 -- one more set behind the others
-pub sets_below : (ls : List Live) (n : Live) (b : ℕ) (q : Var) → b < length ls → holds_at (ls ++ n ∷ []) b q ≡ holds_at ls b q
-sets_below [] n b q h = absurd (omega arith)
-sets_below (x ∷ xs) n zero q h = refl
-sets_below (x ∷ xs) n (suc b) q h = sets_below xs n b q (omega arith)
-
-pub set_behind : (ls : List Live) (n : Live) (q : Var) → holds_at (ls ++ n ∷ []) (length ls) q ≡ holds n q
-set_behind [] n q = refl
-set_behind (x ∷ xs) n q = set_behind xs n q
-
 pub sets_none : (ls : List Live) (n : Live) → ((q : Var) → holds n q ≡ false) → ((b : ℕ) (q : Var) → holds_at ls b q ≡ false) → (b : ℕ) (q : Var) → holds_at (ls ++ n ∷ []) b q ≡ false
 sets_none [] n e h zero q = e q
 sets_none [] n e h (suc b) q = refl
 sets_none (x ∷ xs) n e h zero q = h zero q
 sets_none (x ∷ xs) n e h (suc b) q = sets_none xs n e (λ c p. h (suc c) p) b q
-
--- a fact of each of the sets below b, and of the one at b
-pub sets_more : (ls : List Live) (n : Live) (b : ℕ) (f : ℕ → Var → Bool) → length ls ≡ b → ((c : ℕ) (q : Var) → c < b → holds_at ls c q ≡ f c q) → ((q : Var) → holds n q ≡ f b q) → (c : ℕ) (q : Var) → c < b + 1 → holds_at (ls ++ n ∷ []) c q ≡ f c q
-sets_more ls n b f e below here c q h = go (cases c b h)
-  where
-    cases : (c b : ℕ) → c < b + 1 → (c ≡ b) ⊎ (c < b)
-    cases c b h = grind arith
-
-    go : (c ≡ b) ⊎ (c < b) → holds_at (ls ++ n ∷ []) c q ≡ f c q
-    go (inl p) = ap (λ k. holds_at (ls ++ n ∷ []) k q) (p ∙ sym e) ∙ set_behind ls n q ∙ here q ∙ ap (λ k. f k q) (sym p)
-    go (inr k) = sets_below ls n c q (omega arith) ∙ below c q k

@@ -256,6 +256,3 @@ module _ (blocks : List Block) where
       ∙ pred_get preds here d p h
       ∙ are here p
       ∙ ap (λ n. nat_lt p n && leads (map block_of blocks) p here) (sym long)
-
-  pub sets_are : (sets now : List Live) → now ≡ sets → ((b : ℕ) (q : Var) → b < length blocks → holds_at sets b q ≡ sets_any (instrs_at (map block_of blocks) b) q) → (b : ℕ) (q : Var) → b < length (map block_of blocks) → holds_at now b q ≡ sets_any (instrs_at (map block_of blocks) b) q
-  sets_are sets now e are b q h = ap (λ (ls : List Live). holds_at ls b q) e ∙ are b q (let l = long in omega (arith, h, l))

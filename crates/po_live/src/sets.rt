@@ -20,16 +20,6 @@ pub fn empty(alloc: Global) -> Live
     }
 }
 
-/// Whether v is in the set.
-pub fn has(live: &Live, v: Var) -> bool
-    ensures { result ≡ holds live.now v }
-{
-    match v {
-        Var::Reg(r) => live.regs.contains(&r),
-        Var::Cc => live.cc,
-    }
-}
-
 /// Puts v into the set, and says whether it is new there.
 pub fn insert(live: &mut Live, v: Var) -> Result<bool, OutOfMemory>
     ensures all { OnOk result ((q : Variable) → holds live.new q ≡ (var_eq v q || holds live.old q)) }

@@ -10,8 +10,8 @@ ghost use Rattle.po_live.specs.Sets.{var_eq, back, nothing, sets_any};
 ghost use Rattle.po_live.specs.Due.{is_due, is_in, is_among, in_regs, missing_below};
 
 use crate::graph::predecessors;
-use crate::sets::{empty, has, insert};
-use crate::uses::{mark_sets, walk};
+use crate::sets::{empty, insert};
+use crate::uses::{some_sets, walk};
 use po_model::{Block, Live, Var};
 use po_term::{Instr, Reg};
 use po_word::OutOfMemory;
@@ -44,30 +44,31 @@ fn insert_at(out: &mut [Live], p: usize, v: Var) -> Result<bool, OutOfMemory>
     insert(&mut out[p], v)
 }
 
-fn has_at(sets: &[Live], p: usize, v: Var) -> bool
-    requires { p < length sets.now }
-    ensures { result ≡ holds_at sets.now p v }
+/// Whether the block p sets v.
+fn sets_at(blocks: &[Block], p: usize, v: Var) -> bool
+    requires { p < length blocks.now }
+    ensures { result ≡ sets_any (instrs_at (map block_of blocks.now) p) v }
 {
-    has(&sets[p], v)
+    some_sets(&blocks[p].instrs, v)
 }
 
 /// v is live at the end of the block p: where that is new and the block doesn't set v, it is due at the block's start.
 fn arrive(
     p: usize,
     v: Var,
-    sets: &[Live],
+    blocks: &[Block],
     out: &mut [Live],
     work: &mut Vec<Due>,
 ) -> Result<(), OutOfMemory>
     requires here { p < length out.old }
-    requires sets { length sets.now ≡ length out.old }
+    requires blocks { length blocks.now ≡ length out.old }
     ensures out { OnOk result ((b : ℕ) (q : Variable) → holds_at out.new b q ≡ ((p == b && var_eq v q) || holds_at out.old b q)) }
     ensures work { OnOk result ((b : ℕ) (q : Variable) → is_due work.new.items b q
-        ≡ (((p == b && var_eq v q) && (not (holds_at out.old p v) && not (holds_at sets.now p v))) || is_due work.old.items b q)) }
+        ≡ (((p == b && var_eq v q) && (not (holds_at out.old p v) && not (sets_any (instrs_at (map block_of blocks.now) p) v))) || is_due work.old.items b q)) }
     ensures fuel { OnOk result ((us : List Variable) → is_among us v ≡ true
         → missing_below us (holds_at out.new) (length out.old) + length work.new.items ≤ missing_below us (holds_at out.old) (length out.old) + length work.old.items) }
 {
-    if insert_at(out, p, v)? && !has_at(sets, p, v) {
+    if insert_at(out, p, v)? && !sets_at(blocks, p, v) {
         push_due(work, p, v)?;
     }
     Ok(())
@@ -77,20 +78,20 @@ fn arrive(
 fn spread(
     v: Var,
     ps: &[usize],
-    sets: &[Live],
+    blocks: &[Block],
     out: &mut [Live],
     work: &mut Vec<Due>,
 ) -> Result<(), OutOfMemory>
     requires here { (p : ℕ) → is_in ps.now p ≡ true → p < length out.old }
-    requires sets { length sets.now ≡ length out.old }
+    requires blocks { length blocks.now ≡ length out.old }
     ensures out { OnOk result ((b : ℕ) (q : Variable) → holds_at out.new b q ≡ ((is_in ps.now b && var_eq v q) || holds_at out.old b q)) }
     ensures work { OnOk result ((b : ℕ) (q : Variable) → is_due work.new.items b q
-        ≡ (((is_in ps.now b && var_eq v q) && (not (holds_at out.old b v) && not (holds_at sets.now b v))) || is_due work.old.items b q)) }
+        ≡ (((is_in ps.now b && var_eq v q) && (not (holds_at out.old b v) && not (sets_any (instrs_at (map block_of blocks.now) b) v))) || is_due work.old.items b q)) }
     ensures fuel { OnOk result ((us : List Variable) → is_among us v ≡ true
         → missing_below us (holds_at out.new) (length out.old) + length work.new.items ≤ missing_below us (holds_at out.old) (length out.old) + length work.old.items) }
 {
     for p in ps {
-        arrive(*p, v, sets, out, work)?;
+        arrive(*p, v, blocks, out, work)?;
     }
     Ok(())
 }
@@ -152,29 +153,6 @@ fn push_set(sets: &mut Vec<Live>, live: Live) -> Result<(), OutOfMemory>
     }
 }
 
-/// What the instructions of a block set.
-fn set_of(alloc: Global, xs: &[Instr]) -> Result<Live, OutOfMemory>
-    ensures { IfOk result (λ live. (q : Variable) → holds live q ≡ sets_any (instrs_of xs.now) q) }
-{
-    let mut live = empty(alloc);
-    mark_sets(&mut live, xs)?;
-    Ok(live)
-}
-
-/// What the instructions of each block set.
-fn block_sets(alloc: Global, blocks: &[Block]) -> Result<Vec<Live>, OutOfMemory>
-    ensures len { IfOk result (λ sets. length sets.items ≡ length blocks.now) }
-    ensures sets { IfOk result (λ sets. (b : ℕ) (q : Variable) → b < length blocks.now
-        → holds_at sets.items b q ≡ sets_any (instrs_at (map block_of blocks.now) b) q) }
-{
-    let mut sets = Vec::new(alloc);
-    for b in 0..blocks.len() {
-        let live = set_of(alloc, &blocks[b].instrs)?;
-        push_set(&mut sets, live)?;
-    }
-    Ok(sets)
-}
-
 /// n empty sets.
 fn empty_sets(alloc: Global, n: usize) -> Result<Vec<Live>, OutOfMemory>
     ensures len { IfOk result (λ out. length out.items ≡ n) }
@@ -194,11 +172,10 @@ pub fn live_out(alloc: Global, blocks: &[Block]) -> Result<Vec<Live>, OutOfMemor
         (back xs (holds_at out.items b) q ≡ true) ↔ IsRead (map block_of blocks.now) q (record { block = b; rest = xs })) }
 {
     let preds = predecessors(alloc, blocks)?;
-    let sets = block_sets(alloc, blocks)?;
     let mut work = starts(alloc, blocks)?;
     let mut out = empty_sets(alloc, blocks.len())?;
     'passing: while let Some(due) = work.pop() {
-        spread(due.var, &preds[due.block], &sets, &mut out, &mut work)?;
+        spread(due.var, &preds[due.block], blocks, &mut out, &mut work)?;
     }
     Ok(out)
 }

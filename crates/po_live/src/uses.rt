@@ -1,11 +1,11 @@
 //! What instructions read and set, and the walk back through them: from what is live behind an instruction to what is live before it.
-ghost use Rattle.std.specs.Prelude.{◌≡◌, ℕ, OnOk, IfOk, not, true, false, ◌||◌, ◌&&◌, map};
+ghost use Rattle.std.specs.Prelude.{◌≡◌, ℕ, OnOk, IfOk, not, true, false, ◌||◌, ◌&&◌, map, reverse};
 ghost use Rattle.std.specs.List.{list_any};
 ghost use Rattle.po_term.specs.Terms.{tree_of};
 ghost use Rattle.po_term.specs.Moves.{move_of, moves_of, instr_of, instrs_of};
 ghost use Rattle.po_model.specs.declared.var.Var.{Var as Variable};
 ghost use Rattle.po_model.specs.LiveSets.{holds};
-ghost use Rattle.po_model.specs.LiveAfter.{is_arg_of, term_reads, move_reads, move_sets, reads, sets};
+ghost use Rattle.po_model.specs.LiveAfter.{is_reg, is_cc, is_arg_of, term_reads, move_reads, move_sets, reads, sets};
 ghost use Rattle.po_live.specs.Sets.{var_eq, back, sets_any};
 
 use crate::sets::{add, remove};
@@ -124,39 +124,61 @@ pub fn walk(live: &mut Live, xs: &[Instr]) -> Result<(), OutOfMemory>
     Ok(())
 }
 
-/// Puts in what a transfer sets.
-fn mark(live: &mut Live, t: &Transfer) -> Result<(), OutOfMemory>
-    ensures { OnOk result ((q : Variable) → holds live.new q ≡ (move_sets (move_of t.now) q || holds live.old q)) }
+fn is_reg(r: Reg, v: Var) -> bool
+    ensures { result ≡ is_reg r v }
+{
+    match v {
+        Var::Reg(q) => r == q,
+        Var::Cc => false,
+    }
+}
+
+fn is_cc(v: Var) -> bool
+    ensures { result ≡ is_cc v }
+{
+    matches!(v, Var::Cc)
+}
+
+/// Whether a transfer sets v.
+fn sets(t: &Transfer, v: Var) -> bool
+    ensures { result ≡ move_sets (move_of t.now) v }
 {
     match t {
-        Transfer::Set(r, _) => add(live, Var::Reg(*r)),
-        Transfer::Cc(_, _) => add(live, Var::Cc),
-        Transfer::Store(_, _) => Ok(()),
-        Transfer::Goto(_) => Ok(()),
-        Transfer::If(_, _, _) => Ok(()),
-        Transfer::Call(_, _) => {
-            add(live, Var::Cc)?;
-            add(live, Var::Reg(Reg::Rv))
-        }
-        Transfer::Ret => Ok(()),
+        Transfer::Set(r, _) => is_reg(*r, v),
+        Transfer::Cc(_, _) => is_cc(v),
+        Transfer::Store(_, _) => false,
+        Transfer::Goto(_) => false,
+        Transfer::If(_, _, _) => false,
+        Transfer::Call(_, _) => is_reg(Reg::Rv, v) || is_cc(v),
+        Transfer::Ret => false,
     }
 }
 
-fn mark_all(live: &mut Live, xs: &[Transfer]) -> Result<(), OutOfMemory>
-    ensures { OnOk result ((q : Variable) → holds live.new q ≡ (sets (moves_of xs.now) q || holds live.old q)) }
+fn one_sets(xs: &[Transfer], v: Var) -> bool
+    ensures { result ≡ list_any (λ t. move_sets (move_of t) v) xs.now }
 {
-    for t in xs {
-        mark(live, t)?;
-    }
-    Ok(())
+    xs.iter().any(|t| sets(t, v))
 }
 
-/// Puts in what instructions set.
-pub fn mark_sets(live: &mut Live, xs: &[Instr]) -> Result<(), OutOfMemory>
-    ensures { OnOk result ((q : Variable) → holds live.new q ≡ (sets_any (instrs_of xs.now) q || holds live.old q)) }
+/// Whether an instruction sets v.
+#[tactic(auto, using(crate::proofs::Moved::any_move))]
+fn instr_sets(x: &Instr, v: Var) -> bool
+    ensures { result ≡ sets (instr_of x.now) v }
 {
-    for x in xs {
-        mark_all(live, &x.xs)?;
-    }
-    Ok(())
+    one_sets(&x.xs, v)
+}
+
+fn one_of_them_sets(xs: &[Instr], v: Var) -> bool
+    ensures { result ≡ list_any (λ x. sets (instr_of x) v) (reverse xs.now) }
+{
+    xs.iter().rev().any(|x| instr_sets(x, v))
+}
+
+/// Whether one of the instructions sets v. It is asked of what is live behind them, and goes back to the last one that does, over
+/// instructions after which v is live: so all these questions cost no more than the sets that are written down.
+#[tactic(auto, using(crate::proofs::Moved::any_instr_back))]
+pub fn some_sets(xs: &[Instr], v: Var) -> bool
+    ensures { result ≡ sets_any (instrs_of xs.now) v }
+{
+    one_of_them_sets(xs, v)
 }

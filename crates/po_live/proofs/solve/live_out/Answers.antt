@@ -3,12 +3,13 @@ use Rattle.std.proofs.lemmas.List.{length-map}
 use Rattle.po_live.specs.declared.solve.Due.{Due}
 use Rattle.po_model.specs.declared.pair.Live.{Live}
 use Rattle.std.proofs.Common.{List, length-append, ◌≡◌, ℕ, ◌+◌, ◌<◌, ◌≤◌, ◌∙◌, sym, refl, ap, length, map, arith, false}
-use Rattle.po_model.specs.Blocks.{block_of}
+use Rattle.po_model.specs.Blocks.{block_of, instrs_at}
+use Rattle.po_live.specs.Sets.{sets_any}
 use Rattle.po_model.specs.LiveSets.{holds_at}
 use Rattle.po_live.specs.Due.{is_due, is_in, vars_of, missing_below}
 use Rattle.po_live.proofs.Graphs.{written_back}
 use Rattle.po_live.proofs.Paths.{is_read}
-use Rattle.po_live.proofs.Solved.{begun_blocks, due_popped, due_here, due_none, pred_below, preds_are, sets_are, passed_on, ended}
+use Rattle.po_live.proofs.Solved.{begun_blocks, due_popped, due_here, due_none, pred_below, preds_are, passed_on, ended}
 use Rattle.po_live.proofs.solve.live_out.Goals as goal
 
 pub passing-init : goal.passing-init
@@ -59,7 +60,7 @@ passing-preserved c =
       going = passed_on (map block_of c.args.blocks.now) (vars_of c.in_ok-work.work.items) (holds_at c.passing.out.items) (is_due c.passing.work.items) c.passing.invariant.going
           c.in-Some.due.block c.in-Some.due.var (is_due c.pop.new.self.items) (due_popped c.passing.work.items c.pop.new.self.items c.in-Some.due c.in-Some.ensures.items)
           (is_in c.deref.result.now) are
-          (holds_at c.deref-in-Some.result.now) (holds_at c.spread.new.out) (is_due c.spread.new.work.items)
-          (sets_are c.args.blocks.now c.in_ok-sets.sets.items c.deref-in-Some.result.now c.deref-in-Some.ensures.value c.in_ok-sets.ensures.sets)
+          (λ b q. sets_any (instrs_at (map block_of c.args.blocks.now) b) q) (holds_at c.spread.new.out) (is_due c.spread.new.work.items)
+          (λ b q h. refl)
           out work;
     })
