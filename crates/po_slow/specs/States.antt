@@ -12,7 +12,7 @@ use Rattle.po_model.specs.Blocks.{PlainInstr, PlainBlock, code_of, instrs_at, en
 use Rattle.po_model.specs.LiveSets.{holds_at, lives_at}
 use Rattle.po_model.specs.Pairs.{PlainPair, pair_of, WellFormedPair}
 use Rattle.po_model.specs.Combined.{Kept, Gone, AsOne, combination}
-use Rattle.po_model.specs.Scanned.{Answer, Ahead, Stand, InBlock, Scan, Within, Finished, instrs_ahead, blocks_ahead, ready, settled, pair_ready, after_try}
+use Rattle.po_model.specs.Scanned.{Answer, Ahead, Stand, InBlock, Scan, Within, Finished, enter, instrs_ahead, blocks_ahead, ready, settled, pair_ready, after_try}
 use Rattle.po_slow.specs.declared.block.Standing.{Standing}
 use Rattle.po_slow.specs.declared.block.Stage.{Stage}
 use Rattle.po_slow.specs.declared.block.Stage.TheVariants as stage
@@ -56,6 +56,10 @@ place_of code lives b at = place_at code (told lives) b at.done at.next at.chang
 -- where the scan of a ScanState stands
 abbrev pub scan_of : ScanState → Scan
 scan_of s = place_of (code_of s.code) s.lives.after.items s.block s.at
+
+-- into the b-th block of a code, or to the finish where there is none
+abbrev pub enter_at : List PlainBlock → List (Vec Live) → ℕ → Bool → Scan
+enter_at code lives b changed = enter (reverse (take b code)) (blocks_ahead (told lives) b (drop b code)) changed
 
 -- on within the block
 abbrev pub within : (Stand → Stand) → Scan → Scan
