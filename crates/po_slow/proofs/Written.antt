@@ -29,6 +29,10 @@ instrs_get (y ∷ ys) (suc b) x h = instrs_get ys b x (omega arith)
 pub instrs_len : (blocks : List Block) (b : ℕ) (x : Block) → b < length blocks → length (instrs_at (map block_of blocks) b) ≡ vec_len (get_or blocks b x).instrs
 instrs_len blocks b x h = ap length (instrs_get blocks b x h) ∙ (length-map (get_or blocks b x).instrs.items instr_of ∙ sym (get_or blocks b x).instrs.ok.0)
 
+-- the blocks that were written are there
+pub code_with : (v : Vec Block) (ws : List Block) → length ws ≡ length v.items → map block_of (with_items v ws).items ≡ map block_of ws
+code_with v ws n = ap (map block_of) (with_items_is v ws (n ∙ sym v.ok.0))
+
 -- how many instructions each block has stays where it stays in the block that is written
 pub lengths_set : (blocks : List Block) (b : ℕ) (x : Block) → length (instrs_of x.instrs.items) ≡ length (instrs_at (map block_of blocks) b) → (c : ℕ) → length (instrs_at (map block_of (set blocks b x)) c) ≡ length (instrs_at (map block_of blocks) c)
 lengths_set [] b x h c = refl
