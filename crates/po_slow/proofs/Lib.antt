@@ -1,5 +1,6 @@
 pub mod Sound
 pub mod Passes
+pub mod Keeping
 pub mod Places
 pub mod Standing
 pub mod Targets

@@ -33,6 +33,20 @@ instrs_len blocks b x h = ap length (instrs_get blocks b x h) ∙ (length-map (g
 pub code_with : (v : Vec Block) (ws : List Block) → length ws ≡ length v.items → map block_of (with_items v ws).items ≡ map block_of ws
 code_with v ws n = ap (map block_of) (with_items_is v ws (n ∙ sym v.ok.0))
 
+-- where a scan stands in them
+module _ (v : Vec Block) (ws xs : List Block) (lives ls : List (Vec Live)) (n : length ws ≡ length xs) (xs_are : xs ≡ v.items) (ls_are : ls ≡ lives) where
+  blocks_are : map block_of (with_items v ws).items ≡ map block_of ws
+  blocks_are = code_with v ws (n ∙ ap length xs_are)
+
+  pub old_place : (b : ℕ) (at : Standing) → place_of (map block_of xs) ls b at ≡ place_of (map block_of v.items) lives b at
+  old_place b at = (λ i. place_of (map block_of (xs_are i)) (ls_are i) b at)
+
+  pub new_place : (b : ℕ) (at : Standing) → place_of (map block_of (with_items v ws).items) lives b at ≡ place_of (map block_of ws) ls b at
+  new_place b at = (λ i. place_of (blocks_are i) (sym ls_are i) b at)
+
+  pub new_placed : (b : ℕ) (at : Standing) → IsPlaced (map block_of ws) ls b at → IsPlaced (map block_of (with_items v ws).items) lives b at
+  new_placed b at p = subst (λ code. IsPlaced code lives b at) (sym blocks_are) (subst (λ l. IsPlaced (map block_of ws) l b at) ls_are p)
+
 -- how many instructions each block has stays where it stays in the block that is written
 pub lengths_set : (blocks : List Block) (b : ℕ) (x : Block) → length (instrs_of x.instrs.items) ≡ length (instrs_at (map block_of blocks) b) → (c : ℕ) → length (instrs_at (map block_of (set blocks b x)) c) ≡ length (instrs_at (map block_of blocks) c)
 lengths_set [] b x h c = refl
