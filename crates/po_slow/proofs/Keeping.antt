@@ -1,18 +1,30 @@
 -- A scan keeps the form of its instructions: each is well formed, and a control transfer stands only in the last one of a block.
-use Rattle.std.proofs.Common.{◌≡◌, ℕ, zero, suc, ◌+◌, ◌<◌, ◌≤◌, Bool, true, false, List, [], ◌∷◌, ◌++◌, length, map, reverse, take, drop, get_or, Option, Some, None, All, IsTrue, refl, sym, ◌∙◌, ap, subst, arith, append_assoc}
+use Rattle.std.proofs.Common.{◌≡◌, ℕ, zero, suc, ◌+◌, ◌-◌, ◌<◌, ◌≤◌, Bool, true, false, List, [], ◌∷◌, ◌++◌, length, map, reverse, take, drop, get_or, Option, Some, None, All, IsTrue, refl, sym, ◌∙◌, ap, subst, arith, append_assoc}
 use mathlib.Core.List.{reverse_aux}
-use Rattle.std.specs.Prelude.{if◌then◌else◌}
+use mathlib.Core.Logic.{◌⊎◌, inl, inr}
+use Rattle.std.specs.Prelude.{if◌then◌else◌, is_some}
 use Rattle.std.proofs.lemmas.Grind.{reverse_onto}
-use Rattle.std.proofs.lemmas.List.{append-nil}
+use Rattle.std.proofs.lemmas.List.{append-nil, length-drop}
 use Rattle.std.proofs.lemmas.List.Elements.{All-nil, All-cons, All-head, All-tail, All-append, All-weaker}
 use Rattle.po_term.specs.Form.{WellFormed}
 use Rattle.po_model.specs.declared.var.Var.{Var}
-use Rattle.po_model.specs.Blocks.{PlainInstr, PlainBlock, ending_of, EndsLast, IsCode}
+use Rattle.std.specs.Global.{Vec}
+use Rattle.po_model.specs.declared.pair.Live.{Live}
+use Rattle.po_model.specs.declared.machine.Machine.{Machine}
+use Rattle.po_model.specs.Machines.{IsMachine}
+use Rattle.po_model.specs.Parts as parts
+use Rattle.po_term.specs.Moves.{SetTo, CcTo, StoreTo, Ends}
+use Rattle.po_model.specs.Blocks.{instrs_at, PlainInstr, PlainBlock, ending_of, EndsLast, IsCode}
 use Rattle.po_model.specs.Pairs.{PlainPair, WellFormedPair}
 use Rattle.po_model.specs.Combined.{Kept, Gone, AsOne}
 use Rattle.po_model.specs.Scanned.{Answer, Ahead, Stand, BlockAhead, InBlock, Scan, Within, Finished, is_dead, onward, ready, settled, pair_ready, after_try, instrs_ahead, blocks_ahead, enter, passed_with}
+use Rattle.po_slow.specs.declared.block.Standing.{Standing}
+use Rattle.po_slow.specs.KeepsEffect.{KeepsEffect}
 use Rattle.po_slow.specs.Passes.{IsFormedCode}
-use Rattle.po_slow.specs.States.{CanAnswer, instrs_in, IsFormedList, IsFormedBlock, IsFormedScan}
+use Rattle.po_slow.proofs.Places.{at_end_done, at_end_next}
+use Rattle.po_slow.proofs.Sound.{answer_keeps}
+use Rattle.po_slow.proofs.Targets.{pair_well_formed}
+use Rattle.po_slow.specs.States.{place_in, place_of, told, HasPair, IsAnswer, IsTried, IsAtEnd, CanAnswer, instrs_in, IsFormedList, IsFormedBlock, IsFormedScan}
 
 -- Lists
 
@@ -100,22 +112,73 @@ formed_after_try o (Within s) f can =
     record { here = t.here; passed = f.passed; coming = f.coming; onward = t.onward }
 formed_after_try o (Finished code) f can = absurd can
 
-abbrev BothFormed : Option PlainPair → Type 0
-BothFormed None = ⊥
-BothFormed (Some p) = WellFormed p.a × WellFormed p.b
+abbrev IsFormedPair : Option PlainPair → Type 0
+IsFormedPair None = ⊥
+IsFormedPair (Some p) = WellFormedPair p
 
--- both instructions of the pair that is ready are well formed
-pub formed_ready : (s : Scan) (p : PlainPair) → IsFormedScan s → pair_ready s ≡ Some p → WellFormed p.a × WellFormed p.b
+-- the pair that is ready is well formed
+pub formed_ready : (s : Scan) (p : PlainPair) → IsFormedScan s → pair_ready s ≡ Some p → WellFormedPair p
 formed_ready (Within s) p f e = go s.stand.done s.stand.rest f.here e
   where
-    go : (done : List PlainInstr) (rest : List Ahead) → IsFormedList (reverse done ++ map (λ x. x.instr) rest) → ready done rest ≡ Some p → WellFormed p.a × WellFormed p.b
+    go : (done : List PlainInstr) (rest : List Ahead) → IsFormedList (reverse done ++ map (λ x. x.instr) rest) → ready done rest ≡ Some p → WellFormedPair p
     go [] rest h e = absurd (cc)
     go (d ∷ ds) [] h e = absurd (cc)
     go (d ∷ ds) (x ∷ xs) h e =
         let a = formed_at (reverse ds) d (x.instr ∷ map (λ x. x.instr) xs) (subst IsFormedList (done_last d ds (x.instr ∷ map (λ x. x.instr) xs)) h) in
         let b = formed_at (reverse (d ∷ ds)) x.instr (map (λ x. x.instr) xs) h in
-        subst BothFormed e (a, b)
+        subst IsFormedPair e (pair_well_formed d x a b)
 formed_ready (Finished code) p f e = absurd (cc)
+
+-- where a pair may be answered for, one is ready
+none_at_end : (s : Scan) → IsAtEnd s → pair_ready s ≡ None
+none_at_end (Within s) h = h
+none_at_end (Finished code) h = absurd h
+
+cannot : (s : Scan) (o : Answer) → CanAnswer (pair_ready s) o → IsAtEnd s → ⊥
+cannot s o can h = subst (λ r. CanAnswer r o) (none_at_end s h) can
+
+less_or_not : (m n : ℕ) → (m < n) ⊎ (n ≤ m)
+less_or_not m zero = inr (omega arith)
+less_or_not zero (suc n) = inl (omega arith)
+less_or_not (suc m) (suc n) = elim (less_or_not m n) [ inl h ↦ inl (omega arith) | inr h ↦ inr (omega arith) ]
+
+pub has_pair : (code : List PlainBlock) (lives : List (Vec Live)) (b : ℕ) (at : Standing) (o : Answer) → CanAnswer (pair_ready (place_of code lives b at)) o → HasPair code b at
+has_pair code lives b at o can =
+    let block = go_block (drop b code) (sym (length-drop b code)) can in
+    record { block = block;
+      done = elim (less_or_not 0 at.done) [ inl h ↦ h | inr h ↦ absurd (cannot (place_of code lives b at) o can (at_end_done code lives b at block (omega arith))) ];
+      next = elim (less_or_not at.next (length (instrs_at code b))) [ inl h ↦ h | inr h ↦ absurd (cannot (place_of code lives b at) o can (at_end_next code lives b at block h)) ] }
+  where
+    go_block : (l : List PlainBlock) → length code - b ≡ length l → CanAnswer (pair_ready (place_in (told lives) b at.done at.next at.changed (reverse (take b code)) l)) o → b < length code
+    go_block [] e h = absurd h
+    go_block (x ∷ xs) e h = omega arith
+
+same_ending : (ms : PlainInstr) → parts.ending_of ms ≡ ending_of ms
+same_ending [] = refl
+same_ending (SetTo r t ∷ ms) = same_ending ms
+same_ending (CcTo t u ∷ ms) = same_ending ms
+same_ending (StoreTo t u ∷ ms) = same_ending ms
+same_ending (Ends e ∷ ms) = refl
+
+none_is : {A : Type 0} (o : Option A) → is_some o ≡ false → o ≡ None
+none_is None h = refl
+none_is (Some x) h = absurd (cc)
+
+-- the answer of slow combination may be given
+pub can_answer : (m : Machine) (s : Scan) (o : Answer) → IsMachine m → IsFormedScan s → IsAnswer m (pair_ready s) o → CanAnswer (pair_ready s) o
+can_answer m s o machine f a = go (pair_ready s) refl a
+  where
+    by_answer : (p : PlainPair) (o : Answer) → KeepsEffect m p o → CanAnswer (Some p) o
+    by_answer p Kept k = tt
+    by_answer p Gone k = tt
+    by_answer p (AsOne j) k = (k.formed machine, λ e. sym (same_ending j) ∙ none_is (parts.ending_of j) (k.control (ap is_some (same_ending p.b ∙ e))))
+    go : (r : Option PlainPair) → pair_ready s ≡ r → IsAnswer m r o → CanAnswer r o
+    go None e a = absurd a
+    go (Some p) e a = by_answer p o (answer_keeps m p o a (formed_ready s p f e))
+
+-- a pair that is tried keeps the form
+pub formed_tried : (m : Machine) (s t : Scan) → IsMachine m → IsFormedScan s → IsTried m s t → IsFormedScan t
+formed_tried m s t machine f tried = subst IsFormedScan (sym tried.goes_on) (formed_after_try tried.outcome s f (can_answer m s tried.outcome machine f tried.is_answer))
 
 -- From block to block
 
