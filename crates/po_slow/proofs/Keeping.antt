@@ -56,12 +56,14 @@ all_back P (a ∷ us) bs h = all_back P us bs (All-tail P a (us ++ bs) h)
 pub formed_without : (us : List PlainInstr) (x : PlainInstr) (bs : List PlainInstr) → IsFormedList (us ++ x ∷ bs) → IsFormedList (us ++ bs)
 formed_without us x bs h = record {
   ends_last = ends_without us x bs h.ends_last;
-  formed = All-append WellFormed us bs (all_front WellFormed us (x ∷ bs) h.formed) (All-tail WellFormed x bs (all_back WellFormed us (x ∷ bs) h.formed)) }
+  formed = All-append WellFormed us bs (all_front WellFormed us (x ∷ bs) h.formed) (All-tail WellFormed x bs (all_back WellFormed us (x ∷ bs) h.formed));
+}
 
 formed_replaced : (us : List PlainInstr) (x y : PlainInstr) (bs : List PlainInstr) → WellFormed y → (ending_of x ≡ None → ending_of y ≡ None) → IsFormedList (us ++ x ∷ bs) → IsFormedList (us ++ y ∷ bs)
 formed_replaced us x y bs w f h = record {
   ends_last = ends_replaced us x y bs f h.ends_last;
-  formed = All-append WellFormed us (y ∷ bs) (all_front WellFormed us (x ∷ bs) h.formed) (All-cons WellFormed y bs w (All-tail WellFormed x bs (all_back WellFormed us (x ∷ bs) h.formed))) }
+  formed = All-append WellFormed us (y ∷ bs) (all_front WellFormed us (x ∷ bs) h.formed) (All-cons WellFormed y bs w (All-tail WellFormed x bs (all_back WellFormed us (x ∷ bs) h.formed)));
+}
 
 formed_at : (us : List PlainInstr) (x : PlainInstr) (bs : List PlainInstr) → IsFormedList (us ++ x ∷ bs) → WellFormed x
 formed_at us x bs h = All-head WellFormed x bs (all_back WellFormed us (x ∷ bs) h.formed)
@@ -145,9 +147,11 @@ less_or_not (suc m) (suc n) = elim (less_or_not m n) [ inl h ↦ inl (omega arit
 pub has_pair : (code : List PlainBlock) (lives : List (Vec Live)) (b : ℕ) (at : Standing) (o : Answer) → CanAnswer (pair_ready (place_of code lives b at)) o → HasPair code b at
 has_pair code lives b at o can =
     let block = go_block (drop b code) (sym (length-drop b code)) can in
-    record { block = block;
+    record {
+      block = block;
       done = elim (less_or_not 0 at.done) [ inl h ↦ h | inr h ↦ absurd (cannot (place_of code lives b at) o can (at_end_done code lives b at block (omega arith))) ];
-      next = elim (less_or_not at.next (length (instrs_at code b))) [ inl h ↦ h | inr h ↦ absurd (cannot (place_of code lives b at) o can (at_end_next code lives b at block h)) ] }
+      next = elim (less_or_not at.next (length (instrs_at code b))) [ inl h ↦ h | inr h ↦ absurd (cannot (place_of code lives b at) o can (at_end_next code lives b at block h)) ];
+    }
   where
     go_block : (l : List PlainBlock) → length code - b ≡ length l → CanAnswer (pair_ready (place_in (told lives) b at.done at.next at.changed (reverse (take b code)) l)) o → b < length code
     go_block [] e h = absurd h
@@ -172,6 +176,7 @@ can_answer m s o machine f a = go (pair_ready s) refl a
     by_answer p Kept k = tt
     by_answer p Gone k = tt
     by_answer p (AsOne j) k = (k.formed machine, λ e. sym (same_ending j) ∙ none_is (parts.ending_of j) (k.control (ap is_some (same_ending p.b ∙ e))))
+
     go : (r : Option PlainPair) → pair_ready s ≡ r → IsAnswer m r o → CanAnswer r o
     go None e a = absurd a
     go (Some p) e a = by_answer p o (answer_keeps m p o a (formed_ready s p f e))
@@ -182,14 +187,15 @@ formed_tried m s t machine f tried = subst IsFormedScan (sym tried.goes_on) (for
 
 -- From block to block
 
-all_reverse : {X : Type 0} (P : X → Type 0) (xs ys : List X) → All P xs → All P ys → All P (reverse_aux xs ys)
+pub all_reverse : {X : Type 0} (P : X → Type 0) (xs ys : List X) → All P xs → All P ys → All P (reverse_aux xs ys)
 all_reverse P [] ys h i = i
 all_reverse P (x ∷ xs) ys h i = all_reverse P xs (x ∷ ys) (All-tail P x xs h) (All-cons P x ys (All-head P x xs h) i)
 
 pub formed_code : (code : List PlainBlock) → All (λ b. IsFormedList b.instrs) code → IsFormedCode code
 formed_code code h = record {
   ends_last = All-weaker (λ b. IsFormedList b.instrs) (λ b. EndsLast b.instrs) (λ b f. f.ends_last) code h;
-  formed = All-weaker (λ b. IsFormedList b.instrs) (λ b. All WellFormed b.instrs) (λ b f. f.formed) code h }
+  formed = All-weaker (λ b. IsFormedList b.instrs) (λ b. All WellFormed b.instrs) (λ b f. f.formed) code h;
+}
 
 pub formed_blocks : (code : List PlainBlock) → IsFormedCode code → All (λ b. IsFormedList b.instrs) code
 formed_blocks code h k d lt = record { ends_last = h.ends_last k d lt; formed = h.formed k d lt }
@@ -209,7 +215,7 @@ pub formed_ahead : (live : ℕ → ℕ → Var → Bool) (b : ℕ) (code : List 
 formed_ahead live b [] h = All-nil (λ b. IsFormedList (map (λ x. x.instr) b.instrs))
 formed_ahead live b (x ∷ xs) h =
     All-cons (λ b. IsFormedList (map (λ x. x.instr) b.instrs)) (record { label = x.label; instrs = instrs_ahead (live b) 0 x.instrs }) (blocks_ahead live (suc b) xs)
-      (subst IsFormedList (sym (ahead_instrs (live b) 0 x.instrs)) (All-head (λ b. IsFormedList b.instrs) x xs h)) (formed_ahead live (suc b) xs (All-tail (λ b. IsFormedList b.instrs) x xs h))
+    (subst IsFormedList (sym (ahead_instrs (live b) 0 x.instrs)) (All-head (λ b. IsFormedList b.instrs) x xs h)) (formed_ahead live (suc b) xs (All-tail (λ b. IsFormedList b.instrs) x xs h))
 
 -- the start of a pass
 pub formed_start : (code : List PlainBlock) (live : ℕ → ℕ → Var → Bool) → IsFormedCode code → IsFormedScan (enter [] (blocks_ahead live 0 code) false)

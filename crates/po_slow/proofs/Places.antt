@@ -137,10 +137,12 @@ cut_placed code lives b at p = record {
   sets = p.sets ∙ sym (cut_length code b at.done);
   lengths = λ c le. omega (arith, cut_fewer code b at.done c, p.lengths c le);
   done = omega arith;
-  next = omega (arith, ap length (cut_at code b at.done), length-take at.done (instrs_at code b), p.done, p.next) }
+  next = omega (arith, ap length (cut_at code b at.done), length-take at.done (instrs_at code b), p.done, p.next);
+}
 
 pub cut_cut : (code : List PlainBlock) (lives : List (Vec Live)) (b : ℕ) (at : Standing) → b < length code → IsPlaced code lives b at → IsCut (cut code b at.done) b (record { done = at.done; next = at.done; changed = at.changed })
 cut_cut code lives b at h p = record {
   block = omega (arith, cut_length code b at.done);
   done = omega (arith, ap length (cut_at code b at.done), length-take at.done (instrs_at code b), p.done, p.next);
-  next = refl }
+  next = refl;
+}

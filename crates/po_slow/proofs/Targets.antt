@@ -70,5 +70,8 @@ or_right false b h = h
 pub pair_well_formed : (d : PlainInstr) (x : Ahead) → WellFormed d → WellFormed x.instr → WellFormedPair (pair_with d x)
 pair_well_formed d x a b =
     let P : Register → Type 0 = λ r. IsTrue (is_set_in d r || is_set_in x.instr r) in
-    record { first = a; second = b;
-      set = put_all P x.live x.instr (put_live x.live d []) (put_all P x.live d [] (All-nil P) (λ r s. or_left (is_set_in d r) (is_set_in x.instr r) s)) (λ r s. or_right (is_set_in d r) (is_set_in x.instr r) s) }
+    record {
+      first = a;
+      second = b;
+      set = put_all P x.live x.instr (put_live x.live d []) (put_all P x.live d [] (All-nil P) (λ r s. or_left (is_set_in d r) (is_set_in x.instr r) s)) (λ r s. or_right (is_set_in d r) (is_set_in x.instr r) s);
+    }

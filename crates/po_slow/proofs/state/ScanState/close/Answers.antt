@@ -18,7 +18,8 @@ returns-clause-formed c =
     let e = code_with s.code.blocks c.cut_within.new.blocks (c.cut_within.auto.blocks ∙ ap length c.deref_mut.ensures.value) ∙ (c.cut_within.ensures ∙ ap (λ l. cut (map block_of l) s.block s.at.done) c.deref_mut.ensures.value) in
     record {
       placed = subst (λ code. IsPlaced code s.lives.after.items s.block (record { done = s.at.done; next = s.at.done; changed = s.at.changed })) (sym e) (cut_placed (code_of s.code) s.lives.after.items s.block s.at c.requires.formed.placed);
-      formed = subst IsFormedScan (sym (returns-clause-same c)) c.requires.formed.formed }
+      formed = subst IsFormedScan (sym (returns-clause-same c)) c.requires.formed.formed;
+    }
 
 pub returns-clause-closed : goal.returns-clause-closed
 returns-clause-closed c =

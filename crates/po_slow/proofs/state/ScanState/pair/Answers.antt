@@ -12,6 +12,6 @@ pub returns : goal.returns
 returns c =
     let s = c.args.self.now in
     let there : pair_ready (scan_of s) ≡ pair_ready (place_of (map block_of c.deref.result.now) c.deref-2.result.now s.block s.at)
-        = (λ i. pair_ready (place_of (map block_of (sym c.deref.ensures.value i)) (sym c.deref-2.ensures.value i) s.block s.at)) in
+    = (λ i. pair_ready (place_of (map block_of (sym c.deref.ensures.value i)) (sym c.deref-2.ensures.value i) s.block s.at)) in
     IfOk-weaker c.copy_within.result (λ p. pair_ready (place_of (map block_of c.deref.result.now) c.deref-2.result.now s.block s.at) ≡ Some (pair_of p)) (λ p. Asks (scan_of s) (ask.Pair p))
-      (λ p e. (there ∙ e, formed_ready (scan_of s) (pair_of p) c.requires.formed.formed (there ∙ e))) c.copy_within.ensures
+    (λ p e. (there ∙ e, formed_ready (scan_of s) (pair_of p) c.requires.formed.formed (there ∙ e))) c.copy_within.ensures

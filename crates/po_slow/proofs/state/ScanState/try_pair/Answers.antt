@@ -19,5 +19,5 @@ returns-clause-formed g c =
     let new = new_place v ws xs lives c.deref.result.now c.try_within.auto.blocks c.deref_mut.ensures.value c.deref.ensures.value s.block at in
     let placed = new_placed v ws xs lives c.deref.result.now c.try_within.auto.blocks c.deref_mut.ensures.value c.deref.ensures.value s.block at c.try_within.ensures.placed in
     let formed : IsTried c.args.m.now (place_of (map block_of xs) c.deref.result.now s.block s.at) (place_of (map block_of ws) c.deref.result.now s.block at) → IsFormedState _
-        = λ t. record { placed = placed; formed = subst IsFormedScan (sym new) (formed_tried c.args.m.now _ _ c.requires.machine (subst IsFormedScan (sym old) c.requires.formed.formed) t) } in
+    = λ t. record { placed = placed; formed = subst IsFormedScan (sym new) (formed_tried c.args.m.now _ _ c.requires.machine (subst IsFormedScan (sym old) c.requires.formed.formed) t) } in
     on_ok_weaker _ formed c.try_within.ensures.tried
