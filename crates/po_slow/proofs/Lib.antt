@@ -20,6 +20,8 @@ pub mod RunsLeave
 pub mod RunsBlocks
 pub mod RunsStart
 pub mod RunsPasses
+pub mod Keeping
+pub mod Passing
 pub mod Places
 pub mod LivenessLast
 pub mod LivenessPasses

@@ -1,8 +1,8 @@
 -- Within one block of a code, whose instructions are written.
 use Rattle.std.proofs.Common.{◌≡◌, ℕ, zero, suc, ◌+◌, ◌<◌, ◌≤◌, Bool, List, [], ◌∷◌, ◌++◌, length, map, reverse, take, drop, set, get_or, refl, sym, ◌∙◌, ap, subst, arith}
 use Rattle.std.specs.Global.{Vec}
-use Rattle.std.specs.Vec.{with_items}
-use Rattle.std.proofs.lemmas.List.{length-set, length-map, map-set, take-set, drop-set, drop_more, with_items_is, get_or-map}
+use Rattle.std.specs.Vec.{vec_len, with_items}
+use Rattle.std.proofs.lemmas.List.{length-set, length-map, map-set, take-set, drop-set, drop_more, with_items_is, get_or-map, take-map}
 use Rattle.po_term.specs.declared.transfer.Instr.{Instr}
 use Rattle.po_term.specs.Moves.{instr_of, instrs_of}
 use Rattle.po_model.specs.declared.code.Block.{Block}
@@ -13,7 +13,7 @@ use Rattle.po_model.specs.Blocks.{PlainInstr, PlainBlock, block_of, instrs_at}
 use Rattle.po_model.specs.LiveSets.{holds_at, lives_at}
 use Rattle.po_model.specs.Scanned.{Answer, Stand, Scan, Within, Finished, settled, after_try, ready, pair_ready, instrs_ahead, blocks_ahead}
 use Rattle.po_slow.specs.declared.block.Standing.{Standing}
-use Rattle.po_slow.specs.States.{stand_at, on, place_in, place_at, told, place_of, within, IsAnswer, IsTriedIn, IsTried, IsPlaced}
+use Rattle.po_slow.specs.States.{stand_at, on, place_in, place_at, told, place_of, within, cut, IsAnswer, IsTriedIn, IsTried, IsPlaced}
 
 -- the sets and the instructions of the b-th block
 pub lives_get : (lives : List (Vec Live)) (b : ℕ) (v : Vec Live) → b < length lives → lives_at lives b ≡ (get_or lives b v).items
@@ -26,6 +26,27 @@ instrs_get [] b x h = absurd (omega arith)
 instrs_get (y ∷ ys) zero x h = refl
 instrs_get (y ∷ ys) (suc b) x h = instrs_get ys b x (omega arith)
 
+pub instrs_len : (blocks : List Block) (b : ℕ) (x : Block) → b < length blocks → length (instrs_at (map block_of blocks) b) ≡ vec_len (get_or blocks b x).instrs
+instrs_len blocks b x h = ap length (instrs_get blocks b x h) ∙ (length-map (get_or blocks b x).instrs.items instr_of ∙ sym (get_or blocks b x).instrs.ok.0)
+
+-- the blocks that were written are there
+pub code_with : (v : Vec Block) (ws : List Block) → length ws ≡ length v.items → map block_of (with_items v ws).items ≡ map block_of ws
+code_with v ws n = ap (map block_of) (with_items_is v ws (n ∙ sym v.ok.0))
+
+-- where a scan stands in them
+module _ (v : Vec Block) (ws xs : List Block) (lives ls : List (Vec Live)) (n : length ws ≡ length xs) (xs_are : xs ≡ v.items) (ls_are : ls ≡ lives) where
+  blocks_are : map block_of (with_items v ws).items ≡ map block_of ws
+  blocks_are = code_with v ws (n ∙ ap length xs_are)
+
+  pub old_place : (b : ℕ) (at : Standing) → place_of (map block_of xs) ls b at ≡ place_of (map block_of v.items) lives b at
+  old_place b at = (λ i. place_of (map block_of (xs_are i)) (ls_are i) b at)
+
+  pub new_place : (b : ℕ) (at : Standing) → place_of (map block_of (with_items v ws).items) lives b at ≡ place_of (map block_of ws) ls b at
+  new_place b at = (λ i. place_of (blocks_are i) (sym ls_are i) b at)
+
+  pub new_placed : (b : ℕ) (at : Standing) → IsPlaced (map block_of ws) ls b at → IsPlaced (map block_of (with_items v ws).items) lives b at
+  new_placed b at p = subst (λ code. IsPlaced code lives b at) (sym blocks_are) (subst (λ l. IsPlaced (map block_of ws) l b at) ls_are p)
+
 -- how many instructions each block has stays where it stays in the block that is written
 pub lengths_set : (blocks : List Block) (b : ℕ) (x : Block) → length (instrs_of x.instrs.items) ≡ length (instrs_at (map block_of blocks) b) → (c : ℕ) → length (instrs_at (map block_of (set blocks b x)) c) ≡ length (instrs_at (map block_of blocks) c)
 lengths_set [] b x h c = refl
@@ -33,6 +54,15 @@ lengths_set (y ∷ ys) zero x h zero = h
 lengths_set (y ∷ ys) zero x h (suc c) = refl
 lengths_set (y ∷ ys) (suc b) x h zero = refl
 lengths_set (y ∷ ys) (suc b) x h (suc c) = lengths_set ys b x h c
+
+-- the block that is cut
+pub cut_set : (blocks : List Block) (b n : ℕ) (r x : Block) → b < length blocks → x.label ≡ (get_or blocks b r).label → x.instrs.items ≡ take n (get_or blocks b r).instrs.items → map block_of (set blocks b x) ≡ cut (map block_of blocks) b n
+cut_set [] b n r x h l i = refl
+cut_set (y ∷ ys) zero n r x h l i = (λ j. record { label = l j; instrs = cut_items j } ∷ map block_of ys)
+  where
+    cut_items : instrs_of x.instrs.items ≡ take n (instrs_of y.instrs.items)
+    cut_items = ap instrs_of i ∙ sym (take-map instr_of n y.instrs.items)
+cut_set (y ∷ ys) (suc b) n r x h l i = ap (λ zs. block_of y ∷ zs) (cut_set ys b n r x (omega arith) l i)
 
 -- the block of a code that is written
 place_set : (code : List PlainBlock) (live : ℕ → ℕ → Var → Bool) (b done next done' next' : ℕ) (changed changed' : Bool) (x : PlainBlock) (ys : List PlainInstr) (f : Stand → Stand) → b < length code → x ≡ get_or code b x
@@ -61,8 +91,10 @@ module _ (blocks : List Block) (lives : List (Vec Live)) (b : ℕ) (r : Block) (
   pub instrs_here : (xs : List Instr) → b < length blocks → xs ≡ here.instrs.items → length (instrs_at (map block_of blocks) b) ≡ length xs
   instrs_here xs h x_is = ap length (instrs_get blocks b r h) ∙ (length-map here.instrs.items instr_of ∙ ap length (sym x_is))
 
-  pub sets_here : (xs : List Instr) (ls : List Live) (at : Standing) → b < length blocks → xs ≡ here.instrs.items → ls ≡ (get_or lives b v).items → IsPlaced (map block_of blocks) lives b at → length ls ≡ length xs
-  sets_here xs ls at h x_is l_is p = ap length (l_is ∙ sym (lives_get lives b v (omega (arith, p.sets, length-map blocks block_of)))) ∙ (p.lengths b (omega arith) ∙ instrs_here xs h x_is)
+  pub sets_here : (xs : List Instr) (ls : List Live) (at : Standing) → b < length blocks → xs ≡ here.instrs.items → ls ≡ (get_or lives b v).items → IsPlaced (map block_of blocks) lives b at → length xs ≤ length ls
+  sets_here xs ls at h x_is l_is p =
+      let n : length ls ≡ length (lives_at lives b) = ap length (l_is ∙ sym (lives_get lives b v (omega (arith, p.sets, length-map blocks block_of)))) in
+      omega (arith, n, p.lengths b (omega arith), instrs_here xs h x_is)
 
   -- what was written is there
   items_written : (ws xs : List Instr) → length ws ≡ length xs → xs ≡ here.instrs.items → (with_items here.instrs ws).items ≡ ws
@@ -91,7 +123,7 @@ module _ (blocks : List Block) (lives : List (Vec Live)) (b : ℕ) (r : Block) (
       record {
         blocks = omega (arith, p.blocks);
         sets = p.sets ∙ sym count;
-        lengths = λ c le. p.lengths c le ∙ sym (same c);
+        lengths = λ c le. omega (arith, p.lengths c le, same c);
         done = d;
         next = omega (arith, same b);
       }

@@ -2,7 +2,7 @@
 --
 -- A block is scanned in place: its first instructions are those that are done, its last ones those that are to come, and what lies
 -- between them is left over.
-use Rattle.std.specs.Prelude.{ℕ, suc, ◌≡◌, ◌≤◌, ◌<◌, Bool, List, [], ◌∷◌, ◌++◌, map, reverse, take, drop, length, All, Option, Some, None, ⊤}
+use Rattle.std.specs.Prelude.{ℕ, zero, suc, ◌≡◌, ◌≤◌, ◌<◌, Bool, List, [], ◌∷◌, ◌++◌, map, reverse, take, drop, length, All, Option, Some, None, ⊤}
 use Rattle.std.specs.Global.{Vec}
 use Rattle.po_term.specs.Form.{WellFormed}
 use Rattle.po_model.specs.declared.pair.Live.{Live}
@@ -12,8 +12,10 @@ use Rattle.po_model.specs.Blocks.{PlainInstr, PlainBlock, code_of, instrs_at, en
 use Rattle.po_model.specs.LiveSets.{holds_at, lives_at}
 use Rattle.po_model.specs.Pairs.{PlainPair, pair_of, WellFormedPair}
 use Rattle.po_model.specs.Combined.{Kept, Gone, AsOne, combination}
-use Rattle.po_model.specs.Scanned.{Answer, Ahead, Stand, InBlock, Scan, Within, Finished, instrs_ahead, blocks_ahead, ready, settled, pair_ready, after_try}
+use Rattle.po_model.specs.Scanned.{Answer, Ahead, Stand, InBlock, Scan, Within, Finished, enter, instrs_ahead, blocks_ahead, ready, settled, pair_ready, after_try}
 use Rattle.po_slow.specs.declared.block.Standing.{Standing}
+use Rattle.po_slow.specs.declared.block.Stage.{Stage}
+use Rattle.po_slow.specs.declared.block.Stage.TheVariants as stage
 use Rattle.po_slow.specs.declared.state.Ask.{Ask}
 use Rattle.po_slow.specs.declared.state.Ask.TheVariants as ask
 use Rattle.po_slow.specs.declared.state.ScanState.{ScanState}
@@ -54,6 +56,10 @@ place_of code lives b at = place_at code (told lives) b at.done at.next at.chang
 -- where the scan of a ScanState stands
 abbrev pub scan_of : ScanState → Scan
 scan_of s = place_of (code_of s.code) s.lives.after.items s.block s.at
+
+-- into the b-th block of a code, or to the finish where there is none
+abbrev pub enter_at : List PlainBlock → List (Vec Live) → ℕ → Bool → Scan
+enter_at code lives b changed = enter (reverse (take b code)) (blocks_ahead (told lives) b (drop b code)) changed
 
 -- on within the block
 abbrev pub within : (Stand → Stand) → Scan → Scan
@@ -128,7 +134,7 @@ IsFormedScan (Finished code) = IsFormedCode code
 pub record IsPlaced (code : List PlainBlock) (lives : List (Vec Live)) (b : ℕ) (at : Standing) : Type 0 where
   pub blocks : b ≤ length code
   pub sets : length lives ≡ length code
-  pub lengths : (c : ℕ) → b ≤ c → length (lives_at lives c) ≡ length (instrs_at code c)
+  pub lengths : (c : ℕ) → b ≤ c → length (instrs_at code c) ≤ length (lives_at lives c)
   pub done : at.done ≤ at.next
   pub next : at.next ≤ length (instrs_at code b)
 
@@ -137,6 +143,24 @@ pub record HasPair (code : List PlainBlock) (b : ℕ) (at : Standing) : Type 0 w
   pub block : b < length code
   pub done : 0 < at.done
   pub next : at.next < length (instrs_at code b)
+
+-- the block from which the scan goes on is cut to what is done
+pub record IsCut (code : List PlainBlock) (b : ℕ) (at : Standing) : Type 0 where
+  pub block : b < length code
+  pub done : at.done ≡ length (instrs_at code b)
+  pub next : at.next ≡ at.done
+
+-- the b-th block is cut to its first instructions
+abbrev pub cut : List PlainBlock → ℕ → ℕ → List PlainBlock
+cut [] b n = []
+cut (x ∷ xs) zero n = record { label = x.label; instrs = take n x.instrs } ∷ xs
+cut (x ∷ xs) (suc b) n = x ∷ cut xs b n
+
+-- how the scan stands: a pair is ready, a block is at its end, or all blocks are passed
+abbrev pub StandsAs : List PlainBlock → List (Vec Live) → ℕ → Standing → Stage → Type 0
+StandsAs code lives b at stage.Ready = HasPair code b at
+StandsAs code lives b at stage.AtEnd = (b < length code) × IsAtEnd (place_of code lives b at)
+StandsAs code lives b at stage.Over = length code ≤ b
 
 pub record IsFormedState (s : ScanState) : Type 0 where
   pub placed : IsPlaced (code_of s.code) s.lives.after.items s.block s.at

@@ -25,6 +25,17 @@ pub struct Standing {
     pub changed: bool,
 }
 
+/// How a scan stands.
+#[derive(Clone, Copy, Debug, PartialEq, Eq)]
+pub enum Stage {
+    /// A pair is ready.
+    Ready,
+    /// The block is at its end.
+    AtEnd,
+    /// All blocks are passed.
+    Over,
+}
+
 /// Takes an instruction out of the block, and leaves one without transfers there.
 pub fn take_out(alloc: Global, xs: &mut [Instr], i: usize) -> Instr
     requires { i < length xs.old }

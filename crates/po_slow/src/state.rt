@@ -1,16 +1,19 @@
 //! Where the scan of a code stands.
-ghost use Rattle.std.specs.Prelude.{◌≡◌, IfOk, OnOk, OnErr};
+ghost use Rattle.std.specs.Prelude.{◌≡◌, ◌<◌, ◌+◌, length, true, IfOk, OnOk, OnErr};
 ghost use Rattle.po_model.specs.Blocks.{code_of};
 ghost use Rattle.po_model.specs.Combined.{combination_of};
+ghost use Rattle.po_model.specs.Machines.{IsMachine};
 ghost use Rattle.po_model.specs.Scanned.{Finished, IsPassStart, AfterEnd, pair_ready, after_try};
 ghost use Rattle.po_slow.specs.Passes.{IsFormedCode};
-ghost use Rattle.po_slow.specs.States.{scan_of, Asks, CanAnswer, IsAtEnd, IsFinished, IsFormedState};
+ghost use Rattle.po_slow.specs.States.{scan_of, enter_at, Asks, CanAnswer, StandsAs, HasPair, IsAtEnd, IsFinished, IsCut, IsPlaced, IsTried, IsFormedState};
 
-use crate::block::Standing;
-use po_live::Lives;
-use po_model::{Code, Outcome, Pair};
+use crate::block::{Stage, Standing};
+use crate::within::{copy_within, cut_within, go_on_within, settle_within, stage, try_within};
+use po_live::{Lives, live_after};
+use po_model::{Code, Machine, Outcome, Pair, Steps};
 use po_word::OutOfMemory;
 use std::alloc::Global;
+use std::sync::ledger::Ledger;
 
 /// What a scan asks for.
 #[derive(Drop)]
@@ -22,6 +25,13 @@ pub enum Ask {
     /// Nothing any more: the scan is at its finish.
     Finished,
 }
+
+/// The start of a block in a pass that has changed nothing.
+const START: Standing = Standing {
+    done: 0,
+    next: 0,
+    changed: false,
+};
 
 /// Where the scan of a code stands (docs/OPTIMISER.md, "The scan"). Contracts see it as that place, by `scan_of`.
 #[derive(Drop)]
@@ -39,7 +49,15 @@ impl ScanState {
         ensures starts { IfOk result (λ s. IsPassStart (code_of code) (scan_of s)) }
         ensures formed { IfOk result IsFormedState }
     {
-        Err(OutOfMemory)
+        let lives = live_after(alloc, &code)?;
+        let mut s = ScanState {
+            code,
+            lives,
+            block: 0,
+            at: START,
+        };
+        s.enter(alloc);
+        Ok(s)
     }
 
     /// What the scan asks for (docs/OPTIMISER.md, "The scan"), or want of memory: a pair is a copy.
@@ -47,7 +65,11 @@ impl ScanState {
         requires { IsFormedState self.now }
         ensures { IfOk result (Asks (scan_of self.now)) }
     {
-        Err(OutOfMemory)
+        match self.stage() {
+            Stage::Ready => Ok(Ask::Pair(self.pair(alloc)?)),
+            Stage::AtEnd => Ok(Ask::BlockEnd),
+            Stage::Over => Ok(Ask::Finished),
+        }
     }
 
     /// From the end of a block to the next one, to the next pass or to the finish (docs/OPTIMISER.md, "The scan"). Where memory is
@@ -59,7 +81,8 @@ impl ScanState {
         ensures unchanged { OnErr result (scan_of self.new ≡ scan_of self.old) }
         ensures formed { IsFormedState self.new }
     {
-        Err(OutOfMemory)
+        self.close();
+        self.leave(alloc)
     }
 
     /// The code that all passes made (docs/OPTIMISER.md, "The scan"), at the finish.
@@ -70,10 +93,156 @@ impl ScanState {
     {
         self.code
     }
+
+    /// How the scan stands.
+    pub(crate) fn stage(&self) -> Stage
+        requires { IsPlaced (code_of self.now.code) self.now.lives.after.items self.now.block self.now.at }
+        ensures { StandsAs (code_of self.now.code) self.now.lives.after.items self.now.block self.now.at result }
+    {
+        stage(&self.code.blocks, &self.lives.after, self.block, self.at)
+    }
+
+    /// A copy of the pair that is ready.
+    fn pair(&self, alloc: Global) -> Result<Pair, OutOfMemory>
+        requires formed { IsFormedState self.now }
+        requires ready { HasPair (code_of self.now.code) self.now.block self.now.at }
+        ensures { IfOk result (λ p. Asks (scan_of self.now) (Ask.Pair p)) }
+    {
+        copy_within(
+            alloc,
+            &self.code.blocks,
+            &self.lives.after,
+            self.block,
+            self.at,
+        )
+    }
+
+    /// Into the block that is next, where there is one.
+    fn enter(&mut self, alloc: Global)
+        requires placed { IsPlaced (code_of self.old.code) self.old.lives.after.items self.old.block self.old.at }
+        requires start { (self.old.at.done ≡ 0) × (self.old.at.next ≡ 0) }
+        ensures scan { scan_of self.new ≡ enter_at (code_of self.old.code) self.old.lives.after.items self.old.block self.old.at.changed }
+        ensures placed { IsPlaced (code_of self.new.code) self.new.lives.after.items self.new.block self.new.at }
+    {
+        let ScanState {
+            code,
+            lives,
+            block,
+            at,
+        } = self;
+        if *block < code.blocks.len() {
+            go_on_within(alloc, &mut code.blocks, &lives.after, *block, at);
+        }
+    }
+
+    /// Cuts the block that is at its end to what is done.
+    fn close(&mut self)
+        requires formed { IsFormedState self.old }
+        requires at_end { IsAtEnd (scan_of self.old) }
+        ensures same { scan_of self.new ≡ scan_of self.old }
+        ensures formed { IsFormedState self.new }
+        ensures closed { IsCut (code_of self.new.code) self.new.block self.new.at }
+    {
+        let ScanState {
+            code,
+            lives: _,
+            block,
+            at,
+        } = self;
+        cut_within(&mut code.blocks, *block, at.done);
+        at.next = at.done;
+    }
+
+    /// On from a block that is cut to what is done.
+    fn leave(&mut self, alloc: Global) -> Result<(), OutOfMemory>
+        requires formed { IsFormedState self.old }
+        requires closed { IsCut (code_of self.old.code) self.old.block self.old.at }
+        ensures goes_on { OnOk result (AfterEnd (scan_of self.old) (scan_of self.new)) }
+        ensures unchanged { OnErr result (scan_of self.new ≡ scan_of self.old) }
+        ensures formed { IsFormedState self.new }
+    {
+        if self.at.changed && self.block + 1 == self.code.blocks.len() {
+            self.start_pass(alloc)
+        } else {
+            self.enter_next(alloc);
+            Ok(())
+        }
+    }
+
+    /// Into the next block, or to the finish where there is none.
+    fn enter_next(&mut self, alloc: Global)
+        requires formed { IsFormedState self.old }
+        requires closed { IsCut (code_of self.old.code) self.old.block self.old.at }
+        requires same_pass { self.old.at.changed ≡ true → self.old.block + 1 < length (code_of self.old.code) }
+        ensures goes_on { AfterEnd (scan_of self.old) (scan_of self.new) }
+        ensures formed { IsFormedState self.new }
+    {
+        self.block += 1;
+        self.at.done = 0;
+        self.at.next = 0;
+        self.enter(alloc);
+    }
+
+    /// Into the first block, in one pass more.
+    fn start_pass(&mut self, alloc: Global) -> Result<(), OutOfMemory>
+        requires formed { IsFormedState self.old }
+        requires closed { IsCut (code_of self.old.code) self.old.block self.old.at }
+        requires last { self.old.block + 1 ≡ length (code_of self.old.code) }
+        requires changed { self.old.at.changed ≡ true }
+        ensures goes_on { OnOk result (AfterEnd (scan_of self.old) (scan_of self.new)) }
+        ensures unchanged { OnErr result (scan_of self.new ≡ scan_of self.old) }
+        ensures formed { IsFormedState self.new }
+    {
+        self.lives = live_after(alloc, &self.code)?;
+        self.block = 0;
+        self.at = START;
+        self.enter(alloc);
+        Ok(())
+    }
+
+    /// On from the pair that is ready, by what becomes of it.
+    fn settle(&mut self, alloc: Global, o: Outcome)
+        requires formed { IsFormedState self.old }
+        requires ready { HasPair (code_of self.old.code) self.old.block self.old.at }
+        requires answer { CanAnswer (pair_ready (scan_of self.old)) (combination_of o) }
+        ensures goes_on { scan_of self.new ≡ after_try (combination_of o) (scan_of self.old) }
+        ensures formed { IsFormedState self.new }
+    {
+        let ScanState {
+            code,
+            lives,
+            block,
+            at,
+        } = self;
+        settle_within(alloc, &mut code.blocks, &lives.after, *block, at, o);
+    }
+
+    /// Tries the pair that is ready, and goes on from it. A step is counted.
+    pub(crate) fn try_pair<L: Ledger>(
+        &mut self,
+        alloc: Global,
+        m: &Machine,
+        steps: &mut Steps<L>,
+    ) -> Result<(), OutOfMemory>
+        requires machine { IsMachine m.now }
+        requires formed { IsFormedState self.old }
+        requires ready { HasPair (code_of self.old.code) self.old.block self.old.at }
+        ensures tried { OnOk result (IsTried m.now (scan_of self.old) (scan_of self.new)) }
+        ensures formed { OnOk result (IsFormedState self.new) }
+        ensures counted { OnOk result (steps.new ≡ steps.old + 1) }
+    {
+        let ScanState {
+            code,
+            lives,
+            block,
+            at,
+        } = self;
+        try_within(alloc, m, &mut code.blocks, &lives.after, *block, at, steps)
+    }
 }
 
-/// On from the pair that is ready, by what becomes of it (docs/OPTIMISER.md, "The scan"). Where memory is wanting, the scan stays where
-/// it is.
+/// On from the pair that is ready, by what becomes of it (docs/OPTIMISER.md, "The scan"). It never fails: what goes stays in the block's
+/// memory until the block's end.
 pub fn scan_step(alloc: Global, s: &mut ScanState, o: Outcome) -> Result<(), OutOfMemory>
     requires formed { IsFormedState s.old }
     requires answer { CanAnswer (pair_ready (scan_of s.old)) (combination_of o) }
@@ -81,5 +250,6 @@ pub fn scan_step(alloc: Global, s: &mut ScanState, o: Outcome) -> Result<(), Out
     ensures unchanged { OnErr result (scan_of s.new ≡ scan_of s.old) }
     ensures formed { IsFormedState s.new }
 {
-    Err(OutOfMemory)
+    s.settle(alloc, o);
+    Ok(())
 }

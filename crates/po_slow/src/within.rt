@@ -1,16 +1,54 @@
 //! Within one block of a code.
-ghost use Rattle.std.specs.Prelude.{◌≡◌, ◌<◌, ◌+◌, ◌^◌, length, map, IfOk, OnOk, reverse, take, drop};
+ghost use Rattle.std.specs.Prelude.{◌≡◌, ◌<◌, ◌+◌, ◌^◌, length, map, Some, IfOk, OnOk};
 ghost use Rattle.po_model.specs.Blocks.{block_of};
+ghost use Rattle.po_model.specs.Pairs.{pair_of};
 ghost use Rattle.po_model.specs.Combined.{combination_of};
-ghost use Rattle.po_model.specs.Scanned.{onward, after_try};
-ghost use Rattle.po_slow.specs.States.{place_of, within, on, IsPlaced, HasPair, IsTried};
+ghost use Rattle.po_model.specs.Scanned.{onward, pair_ready, after_try};
+ghost use Rattle.po_slow.specs.States.{place_of, within, on, cut, IsPlaced, HasPair, IsTried, StandsAs};
 
-use crate::block::{Standing, go_on, settle};
-use crate::ready::try_pair;
-use po_model::{Block, Live, Machine, Outcome, Steps};
+use crate::block::{Stage, Standing, go_on, settle};
+use crate::ready::{copy_pair, try_pair};
+use po_model::{Block, Live, Machine, Outcome, Pair, Steps};
 use po_word::OutOfMemory;
 use std::alloc::Global;
 use std::sync::ledger::Ledger;
+
+/// How the scan stands in the b-th block.
+pub fn stage(blocks: &[Block], lives: &[Vec<Live>], b: usize, at: Standing) -> Stage
+    requires { IsPlaced (map block_of blocks.now) lives.now b at }
+    ensures { StandsAs (map block_of blocks.now) lives.now b at result }
+{
+    if b >= blocks.len() {
+        Stage::Over
+    } else if at.done > 0 && at.next < blocks[b].instrs.len() {
+        Stage::Ready
+    } else {
+        Stage::AtEnd
+    }
+}
+
+/// A copy of the pair that is ready in the b-th block.
+pub fn copy_within(
+    alloc: Global,
+    blocks: &[Block],
+    lives: &[Vec<Live>],
+    b: usize,
+    at: Standing,
+) -> Result<Pair, OutOfMemory>
+    requires ready { HasPair (map block_of blocks.now) b at }
+    requires placed { IsPlaced (map block_of blocks.now) lives.now b at }
+    ensures { IfOk result (λ p. pair_ready (place_of (map block_of blocks.now) lives.now b at) ≡ Some (pair_of p)) }
+{
+    copy_pair(alloc, &blocks[b].instrs, &lives[b], at)
+}
+
+/// Cuts the b-th block to its first instructions.
+pub fn cut_within(blocks: &mut [Block], b: usize, done: usize)
+    requires { b < length blocks.old }
+    ensures { map block_of blocks.new ≡ cut (map block_of blocks.old) b done }
+{
+    blocks[b].instrs.truncate(done);
+}
 
 /// On to the next pair of the b-th block, or to its end.
 pub fn go_on_within(
