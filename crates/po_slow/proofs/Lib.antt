@@ -4,5 +4,7 @@ pub mod Keeping
 pub mod Passing
 pub mod Places
 pub mod Standing
+pub mod Steps
 pub mod Targets
+pub mod Work
 pub mod Written

@@ -2,3 +2,4 @@ pub mod KeepsEffect
 pub mod Laws
 pub mod Passes
 pub mod States
+pub mod Steps
