@@ -1,10 +1,10 @@
 -- A scan keeps the form of its instructions: each is well formed, and a control transfer stands only in the last one of a block.
-use Rattle.std.proofs.Common.{◌≡◌, ℕ, zero, suc, ◌+◌, ◌-◌, ◌<◌, ◌≤◌, Bool, true, false, List, [], ◌∷◌, ◌++◌, length, map, reverse, take, drop, get_or, Option, Some, None, All, IsTrue, refl, sym, ◌∙◌, ap, subst, arith, append_assoc}
+use Rattle.std.proofs.Common.{◌≡◌, ℕ, zero, suc, ◌-◌, ◌<◌, ◌≤◌, Bool, true, false, List, [], ◌∷◌, ◌++◌, length, map, reverse, take, drop, Option, Some, None, All, refl, sym, ◌∙◌, ap, subst, arith, append_assoc}
 use mathlib.Core.List.{reverse_aux}
 use mathlib.Core.Logic.{◌⊎◌, inl, inr}
 use Rattle.std.specs.Prelude.{if◌then◌else◌, is_some}
 use Rattle.std.proofs.lemmas.Grind.{reverse_onto}
-use Rattle.std.proofs.lemmas.List.{append-nil, length-drop}
+use Rattle.std.proofs.lemmas.List.{length-drop}
 use Rattle.std.proofs.lemmas.List.Elements.{All-nil, All-cons, All-head, All-tail, All-append, All-weaker}
 use Rattle.po_term.specs.Form.{WellFormed}
 use Rattle.po_model.specs.declared.var.Var.{Var}
@@ -14,17 +14,17 @@ use Rattle.po_model.specs.declared.machine.Machine.{Machine}
 use Rattle.po_model.specs.Machines.{IsMachine}
 use Rattle.po_model.specs.Parts as parts
 use Rattle.po_term.specs.Moves.{SetTo, CcTo, StoreTo, Ends}
-use Rattle.po_model.specs.Blocks.{instrs_at, PlainInstr, PlainBlock, ending_of, EndsLast, IsCode}
+use Rattle.po_model.specs.Blocks.{instrs_at, PlainInstr, PlainBlock, ending_of, EndsLast}
 use Rattle.po_model.specs.Pairs.{PlainPair, WellFormedPair}
 use Rattle.po_model.specs.Combined.{Kept, Gone, AsOne}
-use Rattle.po_model.specs.Scanned.{Answer, Ahead, Stand, BlockAhead, InBlock, Scan, Within, Finished, is_dead, onward, ready, settled, pair_ready, after_try, instrs_ahead, blocks_ahead, enter, passed_with}
+use Rattle.po_model.specs.Scanned.{Answer, Ahead, Stand, BlockAhead, Scan, Within, Finished, is_dead, onward, ready, settled, pair_ready, after_try, instrs_ahead, blocks_ahead, enter}
 use Rattle.po_slow.specs.declared.block.Standing.{Standing}
 use Rattle.po_slow.specs.KeepsEffect.{KeepsEffect}
 use Rattle.po_slow.specs.Passes.{IsFormedCode}
 use Rattle.po_slow.proofs.Places.{at_end_done, at_end_next}
 use Rattle.po_slow.proofs.Sound.{answer_keeps}
 use Rattle.po_slow.proofs.Targets.{pair_well_formed}
-use Rattle.po_slow.specs.States.{place_in, place_of, told, HasPair, IsAnswer, IsTried, IsAtEnd, CanAnswer, instrs_in, IsFormedList, IsFormedBlock, IsFormedScan}
+use Rattle.po_slow.specs.States.{place_in, place_of, told, HasPair, IsAnswer, IsTried, IsAtEnd, CanAnswer, instrs_in, IsFormedList, IsFormedScan}
 
 -- Lists
 
@@ -73,9 +73,6 @@ pub done_last : (d : PlainInstr) (ds xs : List PlainInstr) → reverse (d ∷ ds
 done_last d ds xs = ap (λ l. l ++ xs) (reverse_onto ds d []) ∙ append_assoc (reverse ds) (d ∷ []) xs
 
 -- Within a block
-
-aheads : List Ahead → List PlainInstr
-aheads xs = map (λ x. x.instr) xs
 
 -- what holds of the place of the scan of a block
 pub record IsFormedStand (s : Stand) : Type 0 where
@@ -139,7 +136,7 @@ none_at_end (Finished code) h = absurd h
 cannot : (s : Scan) (o : Answer) → CanAnswer (pair_ready s) o → IsAtEnd s → ⊥
 cannot s o can h = subst (λ r. CanAnswer r o) (none_at_end s h) can
 
-less_or_not : (m n : ℕ) → (m < n) ⊎ (n ≤ m)
+pub less_or_not : (m n : ℕ) → (m < n) ⊎ (n ≤ m)
 less_or_not m zero = inr (omega arith)
 less_or_not zero (suc n) = inl (omega arith)
 less_or_not (suc m) (suc n) = elim (less_or_not m n) [ inl h ↦ inl (omega arith) | inr h ↦ inr (omega arith) ]
@@ -216,7 +213,3 @@ formed_ahead live b [] h = All-nil (λ b. IsFormedList (map (λ x. x.instr) b.in
 formed_ahead live b (x ∷ xs) h =
     All-cons (λ b. IsFormedList (map (λ x. x.instr) b.instrs)) (record { label = x.label; instrs = instrs_ahead (live b) 0 x.instrs }) (blocks_ahead live (suc b) xs)
     (subst IsFormedList (sym (ahead_instrs (live b) 0 x.instrs)) (All-head (λ b. IsFormedList b.instrs) x xs h)) (formed_ahead live (suc b) xs (All-tail (λ b. IsFormedList b.instrs) x xs h))
-
--- the start of a pass
-pub formed_start : (code : List PlainBlock) (live : ℕ → ℕ → Var → Bool) → IsFormedCode code → IsFormedScan (enter [] (blocks_ahead live 0 code) false)
-formed_start code live h = formed_enter [] (blocks_ahead live 0 code) false (All-nil (λ b. IsFormedList b.instrs)) (formed_ahead live 0 code (formed_blocks code h))

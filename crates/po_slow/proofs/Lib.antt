@@ -27,5 +27,7 @@ pub mod LivenessLast
 pub mod LivenessPasses
 pub mod KeptForm
 pub mod Standing
+pub mod Steps
 pub mod Targets
+pub mod Work
 pub mod Written

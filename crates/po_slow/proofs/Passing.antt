@@ -1,16 +1,14 @@
 -- From the end of a block to the next one, to the next pass, or to the finish.
-use Rattle.std.proofs.Common.{◌≡◌, ℕ, zero, suc, ◌+◌, ◌-◌, ◌<◌, ◌≤◌, Bool, true, false, List, [], ◌∷◌, ◌++◌, length, map, reverse, take, drop, All, Some, None, refl, sym, ◌∙◌, ap, subst, arith, add-one}
-use mathlib.Core.List.{reverse_aux}
+use Rattle.std.proofs.Common.{◌≡◌, ℕ, suc, ◌+◌, ◌<◌, Bool, true, false, List, [], ◌∷◌, ◌++◌, length, map, reverse, take, drop, All, refl, sym, ◌∙◌, ap, subst, arith, add-one}
 use Rattle.std.specs.Global.{Vec}
 use Rattle.std.proofs.lemmas.List.{append-nil, reverse-reverse, reverse-append, take-append-drop, take_all, drop_all, length-drop}
 use Rattle.std.proofs.lemmas.List.Elements.{All-nil, All-cons, All-head, All-tail, All-append, All-take, All-drop, All-same}
 use Rattle.po_model.specs.declared.pair.Live.{Live}
-use Rattle.po_model.specs.declared.var.Var.{Var}
-use Rattle.po_model.specs.Blocks.{PlainInstr, PlainBlock, instrs_at}
-use Rattle.po_model.specs.Scanned.{Ahead, BlockAhead, InBlock, Scan, Within, Finished, instrs_ahead, blocks_ahead, ready, enter, IsPassStart, AfterPass, AfterBlock, AfterEnd, passed_with}
+use Rattle.po_model.specs.Blocks.{PlainBlock}
+use Rattle.po_model.specs.Scanned.{InBlock, Scan, Within, Finished, instrs_ahead, blocks_ahead, enter, IsPassStart, AfterPass, AfterBlock, AfterEnd, passed_with}
 use Rattle.po_slow.specs.declared.block.Standing.{Standing}
 use Rattle.po_slow.specs.Passes.{IsFormedCode}
-use Rattle.po_slow.specs.States.{stand_at, instrs_in, place_in, told, place_of, enter_at, IsAtEnd, IsFormedList, IsFormedScan, IsCut}
+use Rattle.po_slow.specs.States.{stand_at, place_in, told, place_of, enter_at, IsAtEnd, IsFormedList, IsFormedScan, IsCut}
 use Rattle.po_slow.proofs.Keeping.{all_reverse, ahead_instrs, formed_code, formed_blocks, formed_enter, formed_ahead}
 use Rattle.po_slow.proofs.Places.{BlockAt, block_at, at_end_next}
 

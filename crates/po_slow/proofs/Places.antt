@@ -1,13 +1,13 @@
 -- Where a scan stands in a code, by the number of the block.
-use Rattle.std.proofs.Common.{◌≡◌, ℕ, zero, suc, ◌+◌, ◌-◌, ◌<◌, ◌≤◌, Bool, true, false, List, [], ◌∷◌, ◌++◌, length, map, reverse, take, drop, Some, None, refl, sym, ◌∙◌, ap, subst, arith}
-use Rattle.std.proofs.lemmas.List.{append-nil, reverse-reverse, reverse-append, take-append-drop, take_all, take-take, drop_all, length-take, length-drop, length-map}
+use Rattle.std.proofs.Common.{◌≡◌, ℕ, zero, suc, ◌-◌, ◌<◌, ◌≤◌, Bool, List, [], ◌∷◌, ◌++◌, length, reverse, take, drop, None, refl, sym, ◌∙◌, ap, subst, arith}
+use Rattle.std.proofs.lemmas.List.{append-nil, reverse-reverse, take-append-drop, take-take, drop_all, length-take, length-drop}
 use Rattle.std.specs.Global.{Vec}
 use Rattle.po_model.specs.declared.pair.Live.{Live}
 use Rattle.po_model.specs.declared.var.Var.{Var}
 use Rattle.po_model.specs.Blocks.{PlainInstr, PlainBlock, instrs_at}
-use Rattle.po_model.specs.Scanned.{Ahead, BlockAhead, InBlock, Scan, Within, Finished, instrs_ahead, blocks_ahead, ready, enter, onward, IsPassStart, AfterPass, AfterBlock, AfterEnd, passed_with}
+use Rattle.po_model.specs.Scanned.{Ahead, InBlock, Scan, Within, Finished, instrs_ahead, blocks_ahead, ready}
 use Rattle.po_slow.specs.declared.block.Standing.{Standing}
-use Rattle.po_slow.specs.States.{on, within, stand_at, place_in, place_at, told, place_of, cut, IsAtEnd, IsFinished, IsFormedScan, IsPlaced, IsCut}
+use Rattle.po_slow.specs.States.{stand_at, place_in, place_at, told, place_of, cut, IsAtEnd, IsFinished, IsFormedScan, IsPlaced, IsCut}
 
 -- at the finish all blocks are passed
 pub finished_at : (code : List PlainBlock) (live : ℕ → ℕ → Var → Bool) (b done next : ℕ) (changed : Bool) → IsFinished (place_at code live b done next changed) → place_at code live b done next changed ≡ Finished code

@@ -1,6 +1,6 @@
 -- How the place of the scan of a block moves as instructions are written and counted.
-use Rattle.std.proofs.Common.{◌≡◌, ℕ, zero, suc, ◌+◌, ◌-◌, ◌<◌, ◌≤◌, Bool, true, false, List, [], ◌∷◌, ◌++◌, length, map, reverse, take, drop, set, get_or, Some, refl, sym, ◌∙◌, ap, subst, arith, add-one}
-use Rattle.std.proofs.lemmas.List.{length-set, length-map, map-set, set-set, set_comm, set-get_or, get_or-set_other, take-set-le, take_more_set, take_more, drop-set-lt, drop-set, drop_more, drop_all, get_or-map, get_or_default, reverse-append}
+use Rattle.std.proofs.Common.{◌≡◌, ℕ, zero, suc, ◌+◌, ◌-◌, ◌<◌, ◌≤◌, Bool, true, false, List, [], ◌∷◌, length, reverse, take, drop, set, get_or, Some, refl, sym, ◌∙◌, ap, arith, add-one}
+use Rattle.std.proofs.lemmas.List.{length-set, length-map, map-set, set-set, set_comm, set-get_or, get_or-set_other, take-set-le, take_more_set, take_more, drop-set-lt, drop-set, drop_more, get_or-map, get_or_default, reverse-append}
 use Rattle.po_term.specs.declared.term.Reg.{Reg as Register}
 use Rattle.po_term.specs.declared.transfer.Instr.{Instr}
 use Rattle.po_term.specs.Moves.{instr_of, instrs_of}
@@ -98,14 +98,6 @@ here_stand live xs x done next changed h e alive some o =
     let d = done_at xs (done - 1) done last (omega arith) (omega arith) (get_or_default xs (done - 1) x last (omega arith)) in
     let r = ahead_at live xs next x h e in
     same_stand d r refl (λ ds rs b. record { done = ds; rest = rs; changed = b }) ∙ sym (same_stand d r refl onward ∙ onward_here (instr_of last) (reverse (take (done - 1) (instrs_of xs))) y rs changed alive)
-
--- the end of the block is reached
-pub end_stand : (live : ℕ → Var → Bool) (xs : List Instr) (done next : ℕ) (changed : Bool) → length xs ≤ next
-    → stand_at (instrs_of xs) live done next changed ≡ on onward (stand_at (instrs_of xs) live done next changed)
-end_stand live xs done next changed h =
-    let ds = reverse (take done (instrs_of xs)) in
-    let r : instrs_ahead live next (drop next (instrs_of xs)) ≡ [] = ap (instrs_ahead live next) (drop_all next (instrs_of xs) (omega (arith, length-map xs instr_of))) in
-    same_stand {ds = ds} refl r refl (λ ds rs b. record { done = ds; rest = rs; changed = b }) ∙ sym (same_stand {ds = ds} refl r refl onward)
 
 -- On from the pair that is ready
 

@@ -3,3 +3,4 @@ pub mod Laws
 pub mod Passes
 pub mod States
 pub mod Dead
+pub mod Steps

@@ -118,9 +118,11 @@ fn drop_pair(at: &mut Standing)
     requires small { at.old.next + 1 < 2 ^ 64 }
     ensures { at.new ≡ record { done = at.old.done - 1; next = at.old.next + 1; changed = true } }
 {
-    at.done -= 1;
-    at.next += 1;
-    at.changed = true;
+    *at = Standing {
+        done: at.done - 1,
+        next: at.next + 1,
+        changed: true,
+    };
 }
 
 /// One instruction stands in the place of the pair that is ready, and is next.

@@ -1,4 +1,4 @@
-use Rattle.std.proofs.Common.{◌≡◌, Bool, true, false, sym, ◌∙◌, ap, subst, arith}
+use Rattle.std.proofs.Common.{sym, ◌∙◌, ap, arith}
 use Rattle.po_term.specs.Moves.{instr_of}
 use Rattle.po_model.specs.LiveSets.{holds, holds_at}
 use Rattle.po_model.specs.Scanned.{is_dead}

@@ -1,8 +1,3 @@
-use Rattle.std.proofs.Common.{◌∙◌, sym, ap}
-use Rattle.po_term.specs.Moves.{instrs_of}
-use Rattle.po_model.specs.Combined.{combination_of}
-use Rattle.po_model.specs.Scanned.{onward, settled}
-use Rattle.po_slow.specs.States.{stand_at, on}
 use Rattle.po_slow.proofs.Standing.{gone_stand, one_stand}
 use Rattle.po_slow.proofs.block.place.Goals as goal
 

@@ -1,4 +1,4 @@
-use Rattle.std.proofs.Common.{◌∙◌, refl, sym, ap}
+use Rattle.std.proofs.Common.{refl}
 use Rattle.po_slow.proofs.Written.{cut_set}
 use Rattle.po_slow.proofs.within.cut_within.Goals as goal
 

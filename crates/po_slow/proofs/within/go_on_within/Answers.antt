@@ -1,5 +1,4 @@
-use Rattle.std.proofs.Common.{◌∙◌, sym, ap, length, arith, get_or}
-use Rattle.std.specs.Global.{Vec}
+use Rattle.std.proofs.Common.{◌∙◌, ap, arith}
 use Rattle.po_model.specs.Scanned.{onward}
 use Rattle.po_slow.specs.States.{on}
 use Rattle.po_slow.proofs.Written.{instrs_here, sets_here, place_written, placed_written}

@@ -1,8 +1,7 @@
-use Rattle.std.proofs.Common.{◌∙◌, sym, ap, length, arith, get_or}
+use Rattle.std.proofs.Common.{◌∙◌, ap, arith}
 use Rattle.std.proofs.lemmas.List.{length-map}
 use Rattle.po_model.specs.Blocks.{block_of}
 use Rattle.po_model.specs.Combined.{combination_of}
-use Rattle.std.specs.Global.{Vec}
 use Rattle.po_model.specs.Scanned.{settled}
 use Rattle.po_slow.specs.States.{on}
 use Rattle.po_slow.proofs.Written.{instrs_here, sets_here, place_written, placed_written, settled_within}

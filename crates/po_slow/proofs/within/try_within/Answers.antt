@@ -1,11 +1,7 @@
-use Rattle.std.proofs.Common.{◌∙◌, ◌<◌, sym, ap, subst, length, arith, get_or}
+use Rattle.std.proofs.Common.{◌∙◌, ◌<◌, ap, length, arith}
 use Rattle.std.proofs.lemmas.Result.{on_ok_weaker}
 use Rattle.std.proofs.lemmas.List.{length-map}
 use Rattle.po_model.specs.Blocks.{block_of}
-use Rattle.po_model.specs.Combined.{combination_of}
-use Rattle.std.specs.Global.{Vec}
-use Rattle.po_model.specs.Scanned.{settled}
-use Rattle.po_slow.specs.States.{on, IsAnswer}
 use Rattle.po_slow.proofs.Written.{instrs_here, sets_here, placed_written, tried_written}
 use Rattle.po_slow.proofs.within.try_within.Goals as goal
 

@@ -1,7 +1,6 @@
-use Rattle.std.proofs.Common.{◌≡◌, ◌∙◌, length, map, sym, ap, subst}
-use Rattle.std.specs.Vec.{with_items}
+use Rattle.std.proofs.Common.{◌∙◌, length, map, sym, ap, subst}
 use Rattle.po_model.specs.Blocks.{block_of, code_of}
-use Rattle.po_slow.specs.States.{place_of, cut, IsPlaced, IsCut, IsFormedScan, IsFormedState}
+use Rattle.po_slow.specs.States.{place_of, cut, IsPlaced, IsCut, IsFormedScan}
 use Rattle.po_slow.proofs.Places.{end_block, cut_same, cut_placed, cut_cut}
 use Rattle.po_slow.proofs.Written.{code_with}
 use Rattle.po_slow.proofs.state.ScanState.close.Goals as goal

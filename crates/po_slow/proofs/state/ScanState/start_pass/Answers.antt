@@ -1,4 +1,4 @@
-use Rattle.std.proofs.Common.{◌+◌, sym, subst, false}
+use Rattle.std.proofs.Common.{sym, subst, false}
 use Rattle.po_model.specs.Blocks.{code_of}
 use Rattle.po_slow.specs.States.{scan_of, told, IsFormedScan}
 use Rattle.po_slow.proofs.Passing.{after_last, formed_cut, formed_enter_at}

@@ -1,8 +1,7 @@
-use Rattle.std.proofs.Common.{◌≡◌, ◌∙◌, map, sym, ap, subst}
+use Rattle.std.proofs.Common.{map, sym, subst}
 use Rattle.std.proofs.lemmas.Result.{on_ok_weaker}
 use Rattle.po_model.specs.Blocks.{block_of}
-use Rattle.po_model.specs.Scanned.{pair_ready, after_try}
-use Rattle.po_slow.specs.States.{place_of, scan_of, IsTried, IsAnswer, IsFormedScan, IsFormedState}
+use Rattle.po_slow.specs.States.{place_of, IsTried, IsFormedScan, IsFormedState}
 use Rattle.po_slow.proofs.Keeping.{formed_tried}
 use Rattle.po_slow.proofs.Written.{old_place, new_place, new_placed}
 use Rattle.po_slow.proofs.state.ScanState.try_pair.Goals as goal
