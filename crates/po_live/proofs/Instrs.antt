@@ -95,11 +95,11 @@ there_below (x ∷ xs) zero i h = omega arith
 there_below (x ∷ xs) (suc b) i h = let k = there_below xs b i h in omega arith
 
 -- one more instruction before the others
-pub after_more : (xs : List Instr) (i j : ℕ) (d : Instr) (out live : Var → Bool) (all : Live) (ls : List Live) → j ≡ suc i → i < length xs → ((q : Var) → live q ≡ back (instrs_of (drop j xs)) out q) → ((q : Var) → holds all q ≡ (is_fp q || live q)) → AreAfter (instrs_of (drop j xs)) out (reverse ls) → AreAfter (instrs_of (drop i xs)) out (reverse (ls ++ all ∷ []))
-after_more xs i j d out live all ls p h e f a =
-    let e2 : (q : Var) → live q ≡ back (instrs_of (drop (suc i) xs)) out q = subst (λ (k : ℕ). (q : Var) → live q ≡ back (instrs_of (drop k xs)) out q) p e in
+pub after_more : (xs : List Instr) (i j : ℕ) (d : Instr) (out : Var → Bool) (all : Live) (ls : List Live) → j ≡ suc i → i < length xs → ((q : Var) → holds all q ≡ (is_fp q || back (instrs_of (drop j xs)) out q)) → AreAfter (instrs_of (drop j xs)) out (reverse ls) → AreAfter (instrs_of (drop i xs)) out (reverse (ls ++ all ∷ []))
+after_more xs i j d out all ls p h e a =
+    let e2 : (q : Var) → holds all q ≡ (is_fp q || back (instrs_of (drop (suc i) xs)) out q) = subst (λ (k : ℕ). (q : Var) → holds all q ≡ (is_fp q || back (instrs_of (drop k xs)) out q)) p e in
     let a2 : AreAfter (instrs_of (drop (suc i) xs)) out (reverse ls) = subst (λ (k : ℕ). AreAfter (instrs_of (drop k xs)) out (reverse ls)) p a in
-    rw (drop-cons xs i d, reverse-append ls (all ∷ [])) (λ q. f q ∙ ap (λ b. is_fp q || b) (e2 q), a2)
+    rw (drop-cons xs i d, reverse-append ls (all ∷ [])) (e2, a2)
 
 -- what is live after each instruction of a code
 pub lives_are : (blocks : List Block) (out : List Live) (after : List (Vec Live)) → ((b : ℕ) (xs : List PlainInstr) (q : Var) → (back xs (holds_at out b) q ≡ true) ↔ IsRead (map block_of blocks) q (record { block = b; rest = xs })) → ((b : ℕ) → b < length blocks → AreAfter (instrs_at (map block_of blocks) b) (holds_at out b) (lives_at after b)) → (b i : ℕ) (v : Var) → i < length (instrs_at (map block_of blocks) b) → IsTrue (holds_at (lives_at after b) i v) ↔ LiveAfter (map block_of blocks) b i v
@@ -112,12 +112,19 @@ lives_are blocks out after r a b i v h =
 pub lengths_are : (blocks : List Block) (out : List Live) (after : List (Vec Live)) → length after ≡ length blocks → ((b : ℕ) → b < length blocks → AreAfter (instrs_at (map block_of blocks) b) (holds_at out b) (lives_at after b)) → (b : ℕ) → length (lives_at after b) ≡ length (instrs_at (map block_of blocks) b)
 lengths_are blocks out after e a = all_lengths (map block_of blocks) (holds_at out) after (e ∙ sym (length-map blocks block_of)) (λ b h. a b (omega (arith, h, length-map blocks block_of)))
 
+fp_again : (f r s b : Bool) → (f || (r || (not s && (f || b)))) ≡ (f || (r || (not s && b)))
+fp_again true r s b = refl
+fp_again false r s b = refl
+
 -- back through one more instruction
-pub live_more : (xs : List Instr) (i j : ℕ) (d : Instr) (out live new : Var → Bool) → j ≡ suc i → i < length xs → d ≡ slice_index_or xs i d → ((q : Var) → live q ≡ back (instrs_of (drop j xs)) out q) → ((q : Var) → new q ≡ (reads (instr_of d) q || (not (sets (instr_of d) q) && live q))) → (q : Var) → new q ≡ back (instrs_of (drop i xs)) out q
+pub live_more : (xs : List Instr) (i j : ℕ) (d : Instr) (out live new : Var → Bool) → j ≡ suc i → i < length xs → d ≡ slice_index_or xs i d → ((q : Var) → live q ≡ (is_fp q || back (instrs_of (drop j xs)) out q))
+    → ((q : Var) → new q ≡ (is_fp q || (reads (instr_of d) q || (not (sets (instr_of d) q) && live q)))) → (q : Var) → new q ≡ (is_fp q || back (instrs_of (drop i xs)) out q)
 live_more xs i j d out live new p h g e f q =
-    let e2 : live q ≡ back (instrs_of (drop (suc i) xs)) out q = ap (λ (k : ℕ). live q) p ∙ e q ∙ ap (λ (k : ℕ). back (instrs_of (drop k xs)) out q) p in
+    let e2 : live q ≡ (is_fp q || back (instrs_of (drop (suc i) xs)) out q) = e q ∙ ap (λ (k : ℕ). is_fp q || back (instrs_of (drop k xs)) out q) p in
     let cut : drop i xs ≡ d ∷ drop (suc i) xs = drop-cons xs i d h ∙ ap (λ (x : Instr). x ∷ drop (suc i) xs) (sym g) in
-    f q ∙ ap (λ b. reads (instr_of d) q || (not (sets (instr_of d) q) && b)) e2 ∙ sym (ap (λ (ys : List Instr). back (instrs_of ys) out q) cut)
+    f q ∙ ap (λ b. is_fp q || (reads (instr_of d) q || (not (sets (instr_of d) q) && b))) e2
+    ∙ fp_again (is_fp q) (reads (instr_of d) q) (sets (instr_of d) q) (back (instrs_of (drop (suc i) xs)) out q)
+    ∙ sym (ap (λ (ys : List Instr). is_fp q || back (instrs_of ys) out q) cut)
 
 -- a block's instructions and its set, by their places
 pub after_there : (blocks : List Block) (outs : List Live) (b : ℕ) (d : Block) (l : Live) (is : List Instr) (ls : List Live) → b < length blocks → b < length outs → is ≡ (slice_index_or blocks b d).instrs.items → l ≡ slice_index_or outs b l → AreAfter (instrs_of is) (holds l) ls → AreAfter (instrs_at (map block_of blocks) b) (holds_at outs b) ls

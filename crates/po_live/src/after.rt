@@ -1,8 +1,9 @@
 //! What is live after each instruction of a block, from what is live at its end.
-ghost use Rattle.std.specs.Prelude.{◌≡◌, ◌<◌, ◌||◌, ℕ, OnOk, IfOk, ◌++◌, ◌∷◌, [], map, length};
-ghost use Rattle.po_term.specs.Moves.{instrs_of};
+ghost use Rattle.std.specs.Prelude.{◌≡◌, ◌<◌, ◌||◌, ◌&&◌, not, ℕ, OnOk, IfOk, ◌++◌, ◌∷◌, [], map, length};
+ghost use Rattle.po_term.specs.Moves.{instr_of, instrs_of};
 ghost use Rattle.po_model.specs.declared.var.Var.{Var as Variable};
 ghost use Rattle.po_model.specs.Blocks.{block_of, instrs_at};
+ghost use Rattle.po_model.specs.LiveAfter.{reads, sets};
 ghost use Rattle.po_model.specs.LiveSets.{holds, holds_at, lives_at};
 ghost use Rattle.po_live.specs.Sets.{is_fp, AreAfter};
 
@@ -31,17 +32,25 @@ fn with_fp(live: &Live) -> Result<Live, OutOfMemory>
     Ok(all)
 }
 
+/// Back through an instruction, with `fp` before it too.
+fn step_with_fp(live: &mut Live, x: &Instr) -> Result<(), OutOfMemory>
+    ensures { OnOk result ((q : Variable) → holds live.new q ≡ (is_fp q || (reads (instr_of x.now) q || (not (sets (instr_of x.now) q) && holds live.old q)))) }
+{
+    step(live, x)?;
+    add(live, Var::Reg(Reg::Fp))
+}
+
 /// What is live after each of these instructions.
 fn block_after(alloc: Global, xs: &[Instr], out: &Live) -> Result<Vec<Live>, OutOfMemory>
     ensures { IfOk result (λ after. AreAfter (instrs_of xs.now) (holds out.now) after.items) }
 {
-    let mut live = copy(out)?;
-    let mut after = Vec::new(alloc);
+    let mut live = with_fp(out)?;
+    let mut after = Vec::with_capacity(alloc, xs.len())?;
     let mut i = xs.len();
     while i > 0 {
         i -= 1;
-        push_live(&mut after, with_fp(&live)?)?;
-        step(&mut live, &xs[i])?;
+        push_live(&mut after, copy(&live)?)?;
+        step_with_fp(&mut live, &xs[i])?;
     }
     after.reverse();
     Ok(after)
