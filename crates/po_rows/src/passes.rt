@@ -1,4 +1,4 @@
-//! How many pairs each pass over a unit tries, on the machine `tiny`.
+//! How many pairs each pass over a unit tries, on the machine `tiny`, and how many instructions are left.
 ghost use Rattle.std.specs.Prelude.{◌≡◌, ◌<◌, Some};
 ghost use Rattle.po_model.specs.Machines.{IsMachine};
 ghost use Rattle.po_model.specs.Pairs.{pair_of, WellFormedPair};
@@ -17,13 +17,14 @@ use std::marker::Brand;
 use std::sync::ledger::{Blank, Ledger};
 use std::test::Fail;
 
-/// A unit, and how many pairs each pass over it tries, one pass behind the other.
-const UNITS: [(&str, &[usize]); 2] = [
+/// A unit of one block, how many pairs each pass over it tries, one pass behind the other, and how many instructions are left.
+const UNITS: [(&str, &[usize], usize); 2] = [
     (
         "unit f\nadl 4\nadl 4\nlod\ncon 1\nadd\nsto\ncon 0\nret\nend\n",
         &[11, 5],
+        6,
     ),
-    ("unit f\nlab L\njmp L\nend\n", &[0]),
+    ("unit f\nlab L\njmp L\nend\n", &[0], 1),
 ];
 
 /// Goes on by what becomes of the pair that is ready.
@@ -68,12 +69,26 @@ fn tries<L: Ledger>(
     Ok(Some(100))
 }
 
-/// Whether the passes over a code of one block try so many pairs, and are all.
+/// Whether the scan is at its finish, and so many instructions are left.
+fn leaves(alloc: Global, scan: ScanState, left: usize) -> Result<bool, OutOfMemory>
+    requires { IsFormedState scan }
+{
+    match scan.ask(alloc)? {
+        Ask::Finished => {
+            let code = scan.code();
+            Ok(code.blocks.iter().all(|b| b.instrs.len() == left))
+        }
+        _ => Ok(false),
+    }
+}
+
+/// Whether the passes over a code of one block try so many pairs, are all, and leave so many instructions.
 fn passes_try<L: Ledger>(
     alloc: Global,
     m: &Machine,
     unit: UnitCode,
     want: &[usize],
+    left: usize,
     steps: &mut Steps<L>,
 ) -> Result<bool, OutOfMemory>
     requires machine { IsMachine m.now }
@@ -85,7 +100,7 @@ fn passes_try<L: Ledger>(
             return Ok(false);
         }
     }
-    Ok(tries(alloc, m, &mut scan, steps)?.is_none())
+    leaves(alloc, scan, left)
 }
 
 fn counted<L: Ledger>(
@@ -93,6 +108,7 @@ fn counted<L: Ledger>(
     m: &Machine,
     unit: UnitCode,
     want: &[usize],
+    left: usize,
     ledger: Blank,
 ) -> Result<bool, OutOfMemory>
     requires machine { IsMachine m.now }
@@ -102,11 +118,11 @@ fn counted<L: Ledger>(
     requires some { 0 < ledger.parts }
 {
     let mut steps = Steps::<L>::new(ledger);
-    passes_try(alloc, m, unit, want, &mut steps)
+    passes_try(alloc, m, unit, want, left, &mut steps)
 }
 
-/// Whether the passes over the one unit of a text try so many pairs.
-fn text_tries(alloc: Global, text: &[u8], want: &[usize]) -> Result<bool, Fail> {
+/// Whether the passes over the one unit of a text try so many pairs and leave so many instructions.
+fn text_tries(alloc: Global, text: &[u8], want: &[usize], left: usize) -> Result<bool, Fail> {
     if text.len() > 4194304 {
         return Ok(false);
     }
@@ -116,17 +132,17 @@ fn text_tries(alloc: Global, text: &[u8], want: &[usize]) -> Result<bool, Fail> 
         return Ok(false);
     };
     let code = expand(alloc, unit)?;
-    Ok(counted::<Brand>(alloc, &machine, code, want, Blank::new(1))?)
+    Ok(counted::<Brand>(alloc, &machine, code, want, left, Blank::new(1))?)
 }
 
 #[test]
 fn passes(rt: HostRuntime) -> Result<(), Fail> {
     let alloc = rt.alloc();
-    for (unit, want) in UNITS {
+    for (unit, want, left) in UNITS {
         let mut text = Vec::new(alloc);
         text.extend_from_slice(TINY.as_bytes())?;
         text.extend_from_slice(unit.as_bytes())?;
-        assert!(rt; text_tries(alloc, &text, want)?, "{unit}");
+        assert!(rt; text_tries(alloc, &text, want, left)?, "{unit}");
     }
     Ok(())
 }
