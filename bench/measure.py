@@ -1,5 +1,6 @@
 """Runs a command and measures it: instructions executed, time, and the peak of its memory."""
 import fcntl
+import os
 import pathlib
 import re
 import select
@@ -43,12 +44,14 @@ def peak_kilobytes(words, path):
 
     The pipe that it writes to takes one page, so it is still waiting to write the rest when its peak is read.
     """
-    with open(path, "rb") as given:
-        with subprocess.Popen(words, stdin=given, stdout=subprocess.PIPE) as running:
-            fcntl.fcntl(running.stdout, SET_PIPE_SIZE, 4096)
-            select.select([running.stdout], [], [])
+    reader, writer = os.pipe()
+    fcntl.fcntl(writer, SET_PIPE_SIZE, 4096)
+    with open(path, "rb") as given, open(reader, "rb") as written:
+        with subprocess.Popen(words, stdin=given, stdout=writer) as running:
+            os.close(writer)
+            select.select([written], [], [])
             status = pathlib.Path(f"/proc/{running.pid}/status").read_text("ascii")
-            running.stdout.read()
+            written.read()
         if running.returncode != 0:
             raise Failed(f"{' '.join(words)}: status {running.returncode}")
     peak = re.search(r"VmHWM:\s+(\d+) kB", status)
