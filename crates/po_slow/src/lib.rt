@@ -1,6 +1,10 @@
-//! Slow combination: what becomes of two instructions on a machine (docs/OPTIMISER.md, "Combination").
+//! Slow combination: what becomes of two instructions on a machine (docs/OPTIMISER.md, "Combination"), and the scan that tries the pairs
+//! of a code (docs/OPTIMISER.md, "The scan").
 //!
 //! `pair` answers for one pair: the two are joined (`po_subst`), and the joint list has to fit an entry of the machine (`po_recog`).
+//! `live` says what is live of what instructions set; `block` goes on within a block, in the block's own memory; `ready` tries the pair
+//! that is ready there; `within` does both in a block of a code; `state` goes from block to block and from pass to pass; `unit` makes all
+//! passes.
 #![tactic(auto)]
 
 mod block;

@@ -1,6 +1,8 @@
 //! Pairs of instructions beside what becomes of them, worked out by hand.
 ghost use Rattle.std.specs.Prelude.{◌≡◌, ◌<◌, ◌^◌, length};
 
+mod scan;
+
 use self::Becomes::{Gone, One, Two};
 use self::Part::{Fp, Mem, Num, Plus, Virt};
 use self::Step::{Branch, Goto, Set, Store};
