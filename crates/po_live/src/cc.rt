@@ -1,5 +1,5 @@
 //! Whether `cc` is live after each instruction, with one flag for each and no sets of registers. Where no block reads `cc` before it
-//! sets it, as in naive code, `cc` is live at the end of no block, and one walk back through each block is all the work.
+//! sets it, as in naive code, `cc` is live at the end of no block, and two walks back through each block are all the work.
 ghost use Rattle.std.specs.Prelude.{◌≡◌, ◌<◌, ◌↔◌, ◌||◌, ◌&&◌, not, true, false, ℕ, List, IfOk, OnOk, map, length, ◌++◌, ◌∷◌, []};
 ghost use Rattle.std.specs.List.{list_any};
 ghost use Rattle.po_term.specs.Moves.{move_of, moves_of, instr_of, instrs_of};
