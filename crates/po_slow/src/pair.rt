@@ -9,7 +9,7 @@ ghost use Rattle.po_model.specs.Combined.{recognised, combination, combination_o
 ghost use Rattle.po_slow.specs.KeepsEffect.{KeepsEffect};
 
 use po_model::{Machine, Outcome, Pair, Steps};
-use po_recog::recognise;
+use po_recog::is_recognised;
 use po_subst::{Joined, together};
 use po_term::Instr;
 use po_word::OutOfMemory;
@@ -17,18 +17,14 @@ use std::alloc::Global;
 use std::sync::ledger::Ledger;
 
 /// The instruction in the place of the pair, where an entry fits it.
-fn if_recognised(
-    alloc: Global,
-    m: &Machine,
-    i: Instr,
-    cc_live: bool,
-) -> Result<Outcome, OutOfMemory>
+fn if_recognised(m: &Machine, i: Instr, cc_live: bool) -> Outcome
     requires { length m.now.entries < 2 ^ 32 }
-    ensures { IfOk result (λ o. combination_of o ≡ (recognised words places m.now cc_live (AsOne (instr_of i))).got) }
+    ensures { combination_of result ≡ (recognised words places m.now cc_live (AsOne (instr_of i))).got }
 {
-    match recognise(alloc, m, i.xs.as_slice(), cc_live)? {
-        Some(_) => Ok(Outcome::One(i)),
-        None => Ok(Outcome::Keep),
+    if is_recognised(m, i.xs.as_slice(), cc_live) {
+        Outcome::One(i)
+    } else {
+        Outcome::Keep
     }
 }
 
@@ -40,7 +36,7 @@ fn outcome(alloc: Global, m: &Machine, p: &Pair) -> Result<Outcome, OutOfMemory>
     match together(alloc, p)? {
         Joined::Not => Ok(Outcome::Keep),
         Joined::Empty => Ok(Outcome::Nothing),
-        Joined::List(i) => if_recognised(alloc, m, i, p.live.cc),
+        Joined::List(i) => Ok(if_recognised(m, i, p.live.cc)),
     }
 }
 
