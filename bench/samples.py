@@ -1,9 +1,9 @@
 #!/usr/bin/env python3
-"""Sample units by the rule of `po gen`, as stack code, as C and as LLVM IR.
+"""Sample units, as stack code, as C and as LLVM IR.
 
     samples.py {stack,c,llvm} --units N [--seed N] [--statements N]
 
-A unit has so many statements (8 in `po gen`) on the words 1 to 8 of its frame, drawn from a generator of its own, and returns word 1:
+A unit has so many statements on the words 1 to 8 of its frame, drawn from a generator of its own, and returns word 1:
 
     0  a = c           1  a = a + c           2  a = b + d           3  if (a != c) b = 1
 
