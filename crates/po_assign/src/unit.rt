@@ -33,6 +33,11 @@ pub(crate) fn place_code(
 /// Gives each virtual register of a unit's code a machine register: the lowest that no earlier interval has at the start of its own.
 /// `TooFew` comes exactly where some point lies in more intervals than there are machine registers; it has the first such point and the
 /// number of intervals there (docs/LANGUAGE.md, "Placement").
+///
+/// The machine has at most 64 registers, and the code is as `expand` and the passes give it: its instructions are well formed, and a
+/// control transfer stands only in the last one of a block; each virtual register is set at most once, and read only by later
+/// instructions of the block that sets it; each label and symbol has its name; and there are fewer than 2^29 instructions and fewer
+/// than 2^32 blocks.
 pub fn assign(alloc: Global, m: &Machine, u: UnitCode) -> Result<Placed, AssignRefusal>
     requires code { IsUnitCode (unit_of u) }
     requires few { length m.now.regs ≤ 64 }

@@ -78,7 +78,8 @@ fn text_of(alloc: Global, m: &Machine, p: &Placed) -> Result<Vec<u8>, OutOfMemor
 
 /// Writes the assembly of a unit at the end of `out`: the line `NAME:`, for each block the line `NAME.LABEL:` where it has a label, and
 /// for each instruction the filled template of the first entry that it fits before placement. After `OutOfMemory` `out` is as before
-/// (docs/DESCRIPTION.md, "Templates").
+/// (docs/DESCRIPTION.md, "Templates"). The machine has fewer than 2^32 entries, and a control transfer stands only in the last
+/// instruction of a block.
 pub fn emit(alloc: Global, m: &Machine, p: &Placed, out: &mut Vec<u8>) -> Result<(), OutOfMemory>
     requires code { IsCode (code_of p.now.unit.code) }
     requires entries { length m.now.entries < 2 ^ 32 }

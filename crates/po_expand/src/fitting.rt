@@ -65,7 +65,8 @@ fn check_blocks(m: &Machine, blocks: &[Block], lives: &[Vec<bool>]) -> Result<()
 }
 
 /// Whether a machine has an entry for each instruction of a code, with what is live after it in that code: Unrecognised at the first
-/// one that no entry fits (docs/DESCRIPTION.md, "What fits"). The code has fewer than 2^29 instructions and fewer than 2^32 blocks.
+/// one that no entry fits (docs/DESCRIPTION.md, "What fits"). The machine has fewer than 2^32 entries. The code has fewer than 2^29
+/// instructions and fewer than 2^32 blocks, and a control transfer stands only in the last instruction of a block.
 pub fn check(alloc: Global, m: &Machine, u: &UnitCode) -> Result<(), CheckRefusal>
     requires entries { length m.now.entries < 2 ^ 32 }
     requires code { IsCode (code_of u.now.code) }

@@ -246,7 +246,8 @@ fn units_of(alloc: Global, text: &[u8], at: Spot) -> Result<Items<Unit>, TextRef
 }
 
 /// The units of a text from a place on, up to its end, or the first fault there (docs/STACK.md). `at` is where a line
-/// begins, or the text's end. What is read is allowed by the language. The time is linear in what is read.
+/// begins, or the text's end, and `at.line` and the text's length come to less than 2^32. What is read is allowed by
+/// the language. The time is linear in what is read.
 pub fn read_units(alloc: Global, text: &[u8], at: Spot) -> Result<Items<Unit>, TextRefusal>
     requires within { at.offset ≤ length text.now }
     requires counted { at.line + length text.now < 2 ^ 32 }

@@ -34,7 +34,7 @@ pub fn keyword(word: &Word, text: &[u8]) -> Result<(), LineError>
     }
 }
 
-/// Whether a line with these words is skipped: it has none, or the first begins with `//`.
+/// Whether a line with these words is skipped: it has none, or the first begins with `//` (docs/LANGUAGE.md, "Lines").
 #[tactic(auto, unfolding(crate::specs::Forms::says_nothing))]
 pub fn says_nothing(words: &[Word]) -> bool
     ensures { result ≡ forms.says_nothing (map seen words.now) }
@@ -45,7 +45,7 @@ pub fn says_nothing(words: &[Word]) -> bool
     }
 }
 
-/// The column behind the last byte of a line.
+/// The column behind the last byte of a line, which has at most 4,096 bytes.
 pub fn end_column(line: &[u8]) -> u32
     requires { length line.now ≤ 4096 }
     ensures { result ≡ length line.now + 1 }
@@ -53,7 +53,7 @@ pub fn end_column(line: &[u8]) -> u32
     line.len() as u32 + 1
 }
 
-/// No further word.
+/// No further word; one that is there is Word at its first byte (docs/LANGUAGE.md, "Lines").
 #[tactic(auto, unfolding(crate::specs::Forms::no_more))]
 pub fn no_more(words: &[Word]) -> Result<(), LineError>
     ensures { Gives (λ _. tt) result (forms.no_more (map seen words.now)) }
@@ -64,7 +64,7 @@ pub fn no_more(words: &[Word]) -> Result<(), LineError>
     }
 }
 
-/// The first word; there has to be one.
+/// The first word; where there is none, the fault is Word at the column `end` (docs/LANGUAGE.md, "Lines").
 #[tactic(auto, unfolding(crate::specs::Forms::first_word))]
 pub fn first_word<'a>(words: &[Word<'a>], end: u32) -> Result<Word<'a>, LineError>
     ensures { Gives seen result (forms.first_word (map seen words.now) end) }
@@ -86,7 +86,8 @@ pub fn rest_words<'w, 'a>(words: &'w [Word<'a>]) -> &'w [Word<'a>]
     }
 }
 
-/// One name, and no further word.
+/// One name, and no further word. A missing name is Word at the column `end`, a further word is Word at its first byte,
+/// and a word that is no name has the fault of `name`.
 #[tactic(auto, unfolding(crate::specs::Forms::name_alone))]
 pub fn name_alone(alloc: Global, words: &[Word], end: u32) -> Result<Name, LineError>
     ensures { Gives (λ n. n) result (forms.name_alone (map seen words.now) end) }
@@ -97,7 +98,8 @@ pub fn name_alone(alloc: Global, words: &[Word], end: u32) -> Result<Name, LineE
     Ok(name)
 }
 
-/// One number of a machine word, and no further word.
+/// One number of a machine word, and no further word. A missing number is Word at the column `end`, a further word is
+/// Word at its first byte, and a word that is no such number has the fault of `word_number`.
 #[tactic(auto, unfolding(crate::specs::Forms::word_number_alone))]
 pub fn word_number_alone(words: &[Word], end: u32) -> Result<u32, LineError>
     ensures { Gives (λ n. n) result (forms.word_number_alone (map seen words.now) end) }

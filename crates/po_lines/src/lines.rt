@@ -31,7 +31,8 @@ impl<'a> Model for Lines<'a> {
 }
 
 impl<'a> Lines<'a> {
-    /// The lines of a text from a place on (docs/LANGUAGE.md, "Lines"). Takes no memory.
+    /// The lines of a text from a place on (docs/LANGUAGE.md, "Lines"). `at` lies in the text or at its end, and `at.line`
+    /// and the text's length come to less than 2^32. Takes no memory.
     pub fn behind(text: &'a [u8], at: Spot) -> Lines<'a>
         requires within { at.offset ≤ length text.now }
         requires counted { at.line + length text.now < 2 ^ 32 }

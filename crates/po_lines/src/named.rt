@@ -13,7 +13,7 @@ use po_name::Name;
 use po_text::Kind;
 use std::alloc::Global;
 
-/// The word as a name (docs/LANGUAGE.md, "Lines"). A name that is only too long is TooMany at its byte 65, and any
+/// The word as a name (docs/LANGUAGE.md, "Names"). A name that is only too long is TooMany at its byte 65, and any
 /// other word that is no name is Word at its first byte.
 #[tactic(auto, unfolding(crate::specs::Leaves::name_in))]
 pub fn name(alloc: Global, word: &Word) -> Result<Name, LineError>

@@ -1,3 +1,5 @@
+//! The names that a reader has met so far, to find one again.
+
 use indexmap::IndexSet;
 use std::alloc::{AllocError, Global};
 use std::marker::Model;
@@ -24,6 +26,7 @@ impl Names {
     ghost use Rattle.std.specs.Cmp.Lexicographic.{pointwise};
     ghost use Rattle.po_lines.specs.NameList.{has};
 
+    /// No name yet.
     pub fn new(alloc: Global) -> Names
         ensures { result ≡ [] }
     {
@@ -56,7 +59,7 @@ impl Names {
         self.set.len()
     }
 
-    /// Adds a name, if it isn't there.
+    /// Adds a name, if it isn't there; true exactly where it was added. Only memory can fail.
     #[tactic(auto, using(crate::proofs::NameSet::any_map, crate::proofs::NameSet::put_map))]
     pub fn insert(&mut self, alloc: Global, name: &[u8]) -> Result<bool, AllocError>
         ensures added { IfOk result (λ added. added ≡ not (has name.now self.old)) }

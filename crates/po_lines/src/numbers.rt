@@ -11,7 +11,7 @@ use crate::word::Word;
 use po_text::{Kind, read_number};
 
 /// The word as a number from `low` to `high`. A word that isn't an optional `-` and 1 to 10 digits is Word, and a
-/// number outside the bounds is Number, each at the word's first byte (docs/LANGUAGE.md, "Lines"). Takes no memory.
+/// number outside the bounds is Number, each at the word's first byte (docs/LANGUAGE.md, "Numbers"). Takes no memory.
 #[tactic(auto, unfolding(crate::specs::Leaves::number_in))]
 pub fn number_between(word: &Word, low: i64, high: i64) -> Result<i64, LineError>
     ensures gives { Gives (λ n. n) result (number_in low high (seen word.now)) }
@@ -29,7 +29,8 @@ pub fn number_between(word: &Word, low: i64, high: i64) -> Result<i64, LineError
     }
 }
 
-/// The word as a number from -2147483648 to 4294967295, taken modulo 2^32. Takes no memory.
+/// The word as a number from -2147483648 to 4294967295, taken modulo 2^32. A word that is no number is Word, and a
+/// number outside the bounds is Number, each at the word's first byte (docs/LANGUAGE.md, "Numbers"). Takes no memory.
 #[tactic(auto, unfolding(crate::specs::Leaves::word_number_in))]
 pub fn word_number(word: &Word) -> Result<u32, LineError>
     ensures { Gives (λ n. n) result (word_number_in (seen word.now)) }
@@ -51,7 +52,8 @@ fn machine_word(number: i64) -> u32
     }
 }
 
-/// The word as a number from -2147483648 to 2147483647. Takes no memory.
+/// The word as a number from -2147483648 to 2147483647. A word that is no number is Word, and a number outside the
+/// bounds is Number, each at the word's first byte (docs/LANGUAGE.md, "Numbers"). Takes no memory.
 #[tactic(auto, unfolding(crate::specs::Leaves::signed_number_in))]
 pub fn signed_number(word: &Word) -> Result<i32, LineError>
     ensures { Gives (λ n. n) result (signed_number_in (seen word.now)) }
@@ -69,7 +71,8 @@ fn narrow(number: i64) -> i32
     number as i32
 }
 
-/// The word as a number from 0 to `most`. Takes no memory.
+/// The word as a number from 0 to `most`. A word that is no number is Word, and a number outside the bounds is Number,
+/// each at the word's first byte (docs/LANGUAGE.md, "Numbers"). Takes no memory.
 #[tactic(auto, unfolding(crate::specs::Leaves::small_number_in))]
 pub fn small_number(word: &Word, most: u32) -> Result<u32, LineError>
     ensures gives { Gives (λ n. n) result (small_number_in most (seen word.now)) }

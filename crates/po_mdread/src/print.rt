@@ -12,8 +12,8 @@ use po_name::Name;
 use po_word::OutOfMemory;
 use std::alloc::Global;
 
-/// The description of a machine: no comments, no empty lines, one space between two words of a head line
-/// (docs/DESCRIPTION.md). Only memory can fail.
+/// The description of a machine, which is one that a description may tell of: no comments, no empty lines, one space
+/// between two words of a head line (docs/DESCRIPTION.md). Only memory can fail.
 #[tactic(auto, unfolding(crate::specs::MachineText::machine_text, crate::specs::MachineText::machine_lines))]
 pub fn print_machine(alloc: Global, m: &Machine) -> Result<Vec<u8>, OutOfMemory>
     requires { IsMachine m.now }

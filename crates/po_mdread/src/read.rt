@@ -129,7 +129,7 @@ fn read_lines(alloc: Global, lines: &mut Lines) -> Result<Sofar, TextRefusal>
 }
 
 /// The machine that a text begins with, and the place behind its line `end`, or the first fault there
-/// (docs/DESCRIPTION.md). The time is linear in what is read.
+/// (docs/DESCRIPTION.md). The text has fewer than 2^32 - 1 bytes. The time is linear in what is read.
 #[tactic(auto, unfolding(crate::specs::Reading::described, crate::specs::Reading::finish))]
 pub fn read_machine(alloc: Global, text: &[u8]) -> Result<(Machine, Spot), TextRefusal>
     requires { length text.now < 2 ^ 32 - 1 }

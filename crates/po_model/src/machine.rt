@@ -10,8 +10,11 @@ use sqlite_items::{Boxed, Items};
 /// A description of a machine (docs/DESCRIPTION.md).
 #[derive(Debug, Drop)]
 pub struct Machine {
+    /// The machine's own name.
     pub name: Name,
+    /// The name of the register of the frame, `fp` in patterns.
     pub frame: Name,
+    /// The name of the register of a routine's result, `rv` in patterns.
     pub result: Name,
     /// Four names.
     pub args: Items<Name>,
@@ -28,6 +31,7 @@ pub struct Entry {
     pub pattern: Items<PatTransfer>,
     /// Whether the instruction leaves nothing in `cc`.
     pub clobbers: bool,
+    /// How the instruction is written (docs/DESCRIPTION.md, "Templates").
     pub template: Items<Piece>,
 }
 
@@ -62,7 +66,9 @@ pub enum PatTerm {
 /// What a branch of a pattern compares.
 #[derive(Debug, Drop)]
 pub enum PatCond {
+    /// `cc`
     Cc,
+    /// `t ? u`
     Two(PatTerm, PatTerm),
 }
 

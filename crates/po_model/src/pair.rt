@@ -3,14 +3,15 @@
 use po_term::{Instr, Reg};
 use std::collections::BTreeSet;
 
-/// What is live at a place: registers, and whether `cc` is.
+/// What is live at a place: registers, and whether `cc` is (docs/OPTIMISER.md, "Combination").
 #[derive(Drop)]
 pub struct Live {
     pub regs: BTreeSet<Reg>,
     pub cc: bool,
 }
 
-/// Two instructions, one after the other, and which of the registers that they set, and whether `cc`, is live after the second.
+/// Two instructions, one after the other, and which of the registers that they set, and whether `cc`, is live after the second
+/// (docs/OPTIMISER.md, "Combination").
 #[derive(Drop)]
 pub struct Pair {
     pub a: Instr,
@@ -18,7 +19,7 @@ pub struct Pair {
     pub live: Live,
 }
 
-/// What becomes of a pair.
+/// What becomes of a pair (docs/OPTIMISER.md, "Combination").
 #[derive(Drop)]
 pub enum Outcome {
     /// Both stay.

@@ -22,7 +22,8 @@ impl<L: Ledger> Model for Steps<L> {
 }
 
 impl<L: Ledger> Steps<L> {
-    /// No step, over the new ledger L.
+    /// No step, over the new ledger L, whose name and parts `ledger` has. `parts` says into how many parts the shares of the ledger are
+    /// cut, and is above 0.
     pub fn new(ledger: Blank) -> Steps<L>
         requires name { ledger.name ≡ L.name }
         requires parts { ledger.parts ≡ L.parts }

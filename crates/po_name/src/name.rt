@@ -29,7 +29,8 @@ impl Model for Name {
 }
 
 impl Name {
-    /// The name of these bytes, or None exactly where they are no name.
+    /// The name of these bytes, or None exactly where they are no name (docs/LANGUAGE.md, "Names"). It fails only where memory is
+    /// refused.
     pub fn new(alloc: Global, bytes: &[u8]) -> Result<Option<Name>, OutOfMemory>
         ensures { IfOk result (λ found. found ≡ (if is_name bytes.now then Some bytes.now else None)) }
     {
@@ -41,7 +42,7 @@ impl Name {
         }
     }
 
-    /// The same name once more.
+    /// The same name once more. It fails only where memory is refused.
     pub fn copy(&self, alloc: Global) -> Result<Name, OutOfMemory>
         ensures { IfOk result (λ name. name ≡ self.now) }
     {

@@ -86,7 +86,8 @@ fn fixed_of(name: &[u8]) -> Option<Reg>
     }
 }
 
-/// A symbol `&k`, by its digit, from 0 to 9.
+/// A symbol `&k`, by its digit, from 0 to 9 (docs/DESCRIPTION.md, "Entries"). Anything else is Word at its first byte; a
+/// digit of another kind is ListForm there.
 #[tactic(auto, unfolding(crate::specs::Parts::symbol))]
 pub fn symbol<'a>(cursor: Cursor<'a>, seen: Operands) -> Result<Parsed<'a, u8>, LineError>
     ensures gives { Gives read_of result (parts.symbol (rest_of cursor.entry) seen) }
@@ -95,7 +96,8 @@ pub fn symbol<'a>(cursor: Cursor<'a>, seen: Operands) -> Result<Parsed<'a, u8>, 
     operand(OperandKind::Symbol, cursor, seen)
 }
 
-/// A label `@k`, by its digit, from 0 to 9.
+/// A label `@k`, by its digit, from 0 to 9 (docs/DESCRIPTION.md, "Entries"). Anything else is Word at its first byte; a
+/// digit of another kind is ListForm there.
 #[tactic(auto, unfolding(crate::specs::Parts::label))]
 pub fn label<'a>(cursor: Cursor<'a>, seen: Operands) -> Result<Parsed<'a, u8>, LineError>
     ensures gives { Gives read_of result (parts.label (rest_of cursor.entry) seen) }

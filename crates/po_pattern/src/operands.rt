@@ -6,9 +6,13 @@ ghost use Rattle.po_pattern.specs.Seen as seen;
 /// What an operand stands for: a register `%k`, a constant `#k`, a symbol `&k`, a label `@k`.
 #[derive(Clone, Copy, Debug, PartialEq, Eq)]
 pub enum OperandKind {
+    /// `%k`
     Register,
+    /// `#k` or `#k[lo,hi]`
     Constant,
+    /// `&k`
     Symbol,
+    /// `@k`
     Label,
 }
 
@@ -25,7 +29,7 @@ pub fn none_seen() -> Operands
     Operands { kinds: [None; 10] }
 }
 
-/// The kind that the digit k has, if it has one.
+/// The kind that the digit k, from 0 to 9, has, if it has one.
 pub fn kind_of(operands: &Operands, k: u8) -> Option<OperandKind>
     requires { k < 10 }
     ensures { result ≡ seen.kind_of operands.now k }

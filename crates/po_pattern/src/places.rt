@@ -12,7 +12,7 @@ use crate::cursor::Cursor;
 use po_lines::{LineError, fault_at};
 use po_text::Kind;
 
-/// The beginning of a line.
+/// The beginning of a line, which has at most 4,096 bytes.
 pub fn start(line: &[u8]) -> Cursor
     requires { length line.now ≤ 4096 }
     ensures { rest_of result ≡ record { column = 1; bytes = line.now } }
@@ -23,7 +23,7 @@ pub fn start(line: &[u8]) -> Cursor
     }
 }
 
-/// The place behind so many of the bytes that are left.
+/// The place behind so many of the bytes that are left; `count` is at most their number.
 pub fn behind(cursor: Cursor, count: usize) -> Cursor
     requires { count ≤ length cursor.bytes.now }
     ensures { rest_of result ≡ rests.behind count (rest_of cursor.entry) }
@@ -96,7 +96,7 @@ fn is_name_letter(byte: u8) -> bool
     matches!(byte, b'a'..=b'z' | b'A'..=b'Z' | b'0'..=b'9' | b'_')
 }
 
-/// This byte has to stand here; the place behind it.
+/// This byte has to stand here; the place behind it. Another byte, or the line's end, is Word here.
 #[tactic(auto, unfolding(crate::specs::Rests::mark))]
 pub fn mark<'a>(cursor: Cursor<'a>, byte: u8) -> Result<Cursor<'a>, LineError>
     ensures { Gives rest_of result (rests.mark byte (rest_of cursor.entry)) }

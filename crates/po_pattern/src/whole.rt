@@ -22,6 +22,10 @@ use std::alloc::Global;
 
 /// A whole term, blanks in front of it passed over (docs/DESCRIPTION.md, "Entries"). A term of more than 64 nodes or
 /// deeper than 16 is read for its form alone: its value is None. What stands behind the term isn't looked at.
+///
+/// The first fault from left to right is Word at a part that may not stand there, or at the line's end; Number at a number
+/// outside its bounds; Range at the `[` of a range whose lower end is greater than its upper one; ListForm at an operand
+/// whose digit has another kind, or that has a range though it was seen before.
 pub fn term<'a>(
     alloc: Global,
     cursor: Cursor<'a>,
@@ -148,7 +152,9 @@ fn tree_of(turn: Turn) -> Option<PatTerm>
     }
 }
 
-/// The address in `M[t]`. Where it is beyond the limits of a term its value is None.
+/// The address in `M[t]` (docs/DESCRIPTION.md, "Entries"). Where it is beyond the limits of a term its value is None.
+/// Anything else in the place of `M`, `[` or `]` is Word at its first byte, or at the line's end; the other faults are
+/// those of `term`.
 pub fn address<'a>(
     alloc: Global,
     cursor: Cursor<'a>,

@@ -5,9 +5,13 @@ use po_term::{Label, Reg, Sym};
 /// What an operand of an entry's pattern stands for.
 #[derive(Clone, Copy, Debug, PartialEq, Eq)]
 pub enum Operand {
+    /// A register, for `%k`.
     Reg(Reg),
+    /// A constant, for `#k`.
     Num(u32),
+    /// A label, for `@k`.
     Label(Label),
+    /// A symbol, for `&k`.
     Sym(Sym),
 }
 

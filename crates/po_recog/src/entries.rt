@@ -63,7 +63,8 @@ fn first(entries: &[Entry], xs: &[Transfer], cc_live: bool) -> Option<Filled>
 }
 
 /// The first entry of a machine that fits a list of transfers, where `cc_live` says whether `cc` is live behind them
-/// (docs/DESCRIPTION.md, "What fits"). None exactly where no entry fits. Only the answer's operands take memory.
+/// (docs/DESCRIPTION.md, "What fits"). None exactly where no entry fits. The machine has fewer than 2^32 entries. Only the answer's
+/// operands take memory.
 pub fn recognise(
     alloc: Global,
     m: &Machine,
@@ -86,7 +87,7 @@ pub fn recognise(
 }
 
 /// Whether some entry of a machine fits a list of transfers, where `cc_live` says whether `cc` is live behind them
-/// (docs/DESCRIPTION.md, "What fits"). It takes no memory.
+/// (docs/DESCRIPTION.md, "What fits"). The machine has fewer than 2^32 entries. It takes no memory.
 pub fn is_recognised(m: &Machine, xs: &[Transfer], cc_live: bool) -> bool
     requires { length m.now.entries < 2 ^ 32 }
     ensures { result ≡ is_some (fit m.now cc_live (moves_of xs.now)) }
@@ -99,7 +100,7 @@ pub fn fits_while_cc_is_dead()
     ensures { (m : Machine) (ms : List (Move ℕ Place Reg Sym)) → IsSome (fit m true ms) → IsSome (fit m false ms) }
 {}
 
-/// A law, and no work: what an entry of a machine fits is within the limits of instructions.
+/// A law, and no work: what an entry of a machine that a description may tell of fits is within the limits of instructions.
 pub fn fits_within_limits()
     ensures { FitsWithinLimits }
 {}

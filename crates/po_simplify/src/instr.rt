@@ -12,7 +12,7 @@ use po_term::{Cond, Instr, Label, Term, Transfer};
 use po_word::{OutOfMemory, Rel, holds};
 use std::alloc::Global;
 
-/// What becomes of a branch on two simplified terms (docs/OPTIMISER.md, "The simplifier"). On two constants it is a jump where the
+/// What becomes of a branch on two simplified terms (docs/OPTIMISER.md, "Instructions"). On two constants it is a jump where the
 /// relation holds, and nothing where it doesn't.
 pub fn decide(a: Term, b: Term, rel: Rel, to: Label) -> Option<Transfer>
     ensures { moves_of (option_to_list result) ≡ (decided words same_register (tree_of a) (tree_of b) rel to).got }
@@ -109,7 +109,7 @@ fn simplified(alloc: Global, i: Instr) -> Result<Instr, OutOfMemory>
     Ok(Instr { xs })
 }
 
-/// The instruction simplified (docs/OPTIMISER.md, "The simplifier").
+/// The instruction simplified (docs/OPTIMISER.md, "Instructions").
 ///
 /// In every state it does what the instruction that was passed does: it sets the same registers to the same words, compares and
 /// stores the same words, and goes on at the same label. It has no transfer where all that it had was a branch that is never

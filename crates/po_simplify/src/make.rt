@@ -41,7 +41,8 @@ pub fn binary_made(alloc: Global, op: Bin, a: Term, b: Term) -> Result<Term, Out
 
 /// The simplified term of an operator and its operand, which is simplified already (docs/OPTIMISER.md, "The simplifier").
 ///
-/// In every state its value is the operator's of the operand's value. It fails only where memory is refused.
+/// In every state its value is the operator's of the operand's value, where the operand's constants are words. It fails only where
+/// memory is refused.
 #[tactic(auto, using(crate::proofs::Worths::unary_kept))]
 pub fn make_un(alloc: Global, op: Un, a: Term) -> Result<Term, OutOfMemory>
     ensures made { IfOk result (λ r. tree_of r ≡ (unary_of words same_register op (tree_of a)).got) }
@@ -53,7 +54,8 @@ pub fn make_un(alloc: Global, op: Un, a: Term) -> Result<Term, OutOfMemory>
 
 /// The simplified term of an operator and its operands, which are simplified already (docs/OPTIMISER.md, "The simplifier").
 ///
-/// In every state its value is the operator's of the operands' values. It fails only where memory is refused.
+/// In every state its value is the operator's of the operands' values, where the operands' constants are words. It fails only where
+/// memory is refused.
 #[tactic(auto, using(crate::proofs::Worths::binary_kept))]
 pub fn make_bin(alloc: Global, op: Bin, a: Term, b: Term) -> Result<Term, OutOfMemory>
     ensures made { IfOk result (λ r. tree_of r ≡ (binary_of words same_register op (tree_of a) (tree_of b)).got) }

@@ -4,8 +4,8 @@ ghost use Rattle.po_slow.specs.Dead.{DeadLeavesNoTrace};
 ghost use Rattle.po_slow.specs.Passes.{PassesKeepForm, PassesKeepFit, PassesMakeNothingLive, PassesKeepRuns};
 
 /// For every machine and every well-formed pair of instructions, what stands in the place of the pair does in every state what the two
-/// do, as far as it is seen with what is live after them; it is an instruction, and it makes nothing live (docs/OPTIMISER.md,
-/// "Combination").
+/// do, as far as it is seen with what is live after them, and it makes nothing live; where it is one instruction, that is well formed on
+/// every machine that a description may tell of (docs/OPTIMISER.md, "Combination").
 pub fn combination_keeps_effect()
     ensures { CombinationKeepsEffect }
 {}
@@ -16,9 +16,9 @@ pub fn dead_leaves_no_trace()
     ensures { DeadLeavesNoTrace }
 {}
 
-/// For every machine and every formed code, what all passes make of the code is formed, has the same blocks by their labels, is the code
-/// as it was or has fewer instructions, is straight where the code is, and names only labels and symbols that have their names
-/// (docs/OPTIMISER.md, "The scan").
+/// For every machine that a description may tell of and every formed code, what all passes make of the code is formed, has the same
+/// blocks by their labels, is the code as it was or has fewer instructions, is straight where the code is, and names only labels and
+/// symbols that have their names, where the code does (docs/OPTIMISER.md, "The scan").
 pub fn passes_keep_form()
     ensures { PassesKeepForm }
 {}
@@ -35,9 +35,9 @@ pub fn passes_make_nothing_live()
     ensures { PassesMakeNothingLive }
 {}
 
-/// For every machine and every straight code, n blocks of the code and n blocks of what all passes make of it can't be told apart, from
-/// starts that agree and whatever the calls reply: memory, the calls that were made, where control stands, and each register and cc
-/// that is live there are the same (docs/OPTIMISER.md, "The scan").
+/// For every such machine and code that is straight, n blocks of the code and n blocks of what all passes make of it can't be told
+/// apart, from starts that agree and whatever the calls reply: memory, the calls that were made, where control stands, and each register
+/// and cc that is live there in the code after the passes are the same (docs/OPTIMISER.md, "The scan").
 pub fn passes_keep_runs()
     ensures { PassesKeepRuns }
 {}

@@ -40,8 +40,8 @@ fn outcome(alloc: Global, m: &Machine, p: &Pair) -> Result<Outcome, OutOfMemory>
     }
 }
 
-/// What becomes of a pair on the machine (docs/OPTIMISER.md, "Combination"). One step is counted, whatever the answer. It fails only
-/// where memory is refused.
+/// What becomes of a pair on the machine (docs/OPTIMISER.md, "Keep, nothing, one"), which has fewer than 2^32 entries. One step is
+/// counted, whatever the answer. It fails only where memory is refused.
 pub fn slow_pair<L: Ledger>(
     alloc: Global,
     m: &Machine,

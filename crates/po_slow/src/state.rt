@@ -43,7 +43,8 @@ pub struct ScanState {
 }
 
 impl ScanState {
-    /// The start of the first pass over a code (docs/OPTIMISER.md, "The scan"), or want of memory.
+    /// The start of the first pass over a code (docs/OPTIMISER.md, "The scan"), or want of memory. The code's instructions are well
+    /// formed, and a control transfer stands only in the last one of a block.
     pub fn new(alloc: Global, code: Code) -> Result<ScanState, OutOfMemory>
         requires { IsFormedCode (code_of code) }
         ensures starts { IfOk result (λ s. IsPassStart (code_of code) (scan_of s)) }
@@ -72,8 +73,8 @@ impl ScanState {
         }
     }
 
-    /// From the end of a block to the next one, to the next pass or to the finish (docs/OPTIMISER.md, "The scan"). Where memory is
-    /// wanting, the scan stays where it is.
+    /// From the end of a block to the next one, to the next pass or to the finish (docs/OPTIMISER.md, "The scan"). It is called only
+    /// where the scan is at the end of a block. Where memory is wanting, the scan stays where it is.
     pub fn next_block(&mut self, alloc: Global) -> Result<(), OutOfMemory>
         requires formed { IsFormedState self.old }
         requires at_end { IsAtEnd (scan_of self.old) }
@@ -241,8 +242,9 @@ impl ScanState {
     }
 }
 
-/// On from the pair that is ready, by what becomes of it (docs/OPTIMISER.md, "The scan"). It never fails: what goes stays in the block's
-/// memory until the block's end.
+/// On from the pair that is ready, by what becomes of it (docs/OPTIMISER.md, "The scan"). It is called only where a pair is ready. Where
+/// `o` is one instruction, that is well formed, and has a control transfer only where the pair's second instruction has one. What goes
+/// stays in the block's memory until the block's end. Where memory is wanting, the scan stays where it is.
 pub fn scan_step(alloc: Global, s: &mut ScanState, o: Outcome) -> Result<(), OutOfMemory>
     requires formed { IsFormedState s.old }
     requires answer { CanAnswer (pair_ready (scan_of s.old)) (combination_of o) }

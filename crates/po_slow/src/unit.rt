@@ -55,8 +55,9 @@ fn all_passes<L: Ledger>(
     Ok(s.code())
 }
 
-/// The unit that all passes make of a unit on a machine, or want of memory (docs/OPTIMISER.md, "The scan"). A step is counted for each
-/// pair that is tried.
+/// The unit that all passes make of a unit on a machine, or want of memory (docs/OPTIMISER.md, "The scan"). The machine is one that a
+/// description may tell of; the unit's instructions are well formed, and a control transfer stands only in the last one of a block. A
+/// step is counted for each pair that is tried.
 pub fn slow_unit<L: Ledger>(
     alloc: Global,
     m: &Machine,

@@ -6,7 +6,7 @@ ghost use Rattle.po_term.specs.Terms.{tree_of};
 use crate::Term;
 
 /// How many nodes a term has: one for each constant, register, address and operator (docs/LANGUAGE.md, "Terms").
-/// It recurses as deep as the term is.
+/// The term has fewer than 2^64 of them. It recurses as deep as the term is.
 pub fn size(t: &Term) -> u64
     requires { tree_size (tree_of t.now) < 2 ^ 64 }
     ensures { result ≡ tree_size (tree_of t.now) }
@@ -22,7 +22,7 @@ pub fn size(t: &Term) -> u64
 }
 
 /// How deep a term is: 1 without operands, else one more than its deepest operand (docs/LANGUAGE.md, "Terms").
-/// It recurses as deep as the term is.
+/// The term's depth is below 2^64. It recurses as deep as the term is.
 pub fn depth(t: &Term) -> u64
     requires { tree_depth (tree_of t.now) < 2 ^ 64 }
     ensures { result ≡ tree_depth (tree_of t.now) }

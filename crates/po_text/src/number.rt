@@ -6,7 +6,7 @@ ghost use Rattle.std.specs.List.{list_all};
 ghost use Rattle.po_text.specs.Number.{digits_value, are_digits, natural_of, number_of};
 
 /// The number that a word is: an optional `-` and 1 to 10 decimal digits. Any other word is none. Leading zeros add
-/// nothing, and `-0` is 0. Takes no memory.
+/// nothing, and `-0` is 0 (docs/LANGUAGE.md, "Numbers"). Takes no memory.
 pub fn read_number(word: &[u8]) -> Option<i64>
     ensures { result ≡ number_of word.now }
 {

@@ -38,10 +38,10 @@ pub trait Source {
 }
 
 #[tactic(auto, using(crate::proofs::Known::before_two))]
-/// All bytes up to the end, of which there may be `limit`. `ReadFault` comes exactly where the source's faults rose,
-/// and `TooLong` exactly where more than `limit` bytes came, with the line and the column, both counted from 1, of the
-/// first byte past them; a line ends at its line feed. Each turn takes at least one byte, so there are at most
-/// `limit` + 2 calls of the source.
+/// All bytes up to the end, of which there may be `limit`, a number below 2^32 - 1. `ReadFault` comes exactly where
+/// the source's faults rose, and `TooLong` exactly where more than `limit` bytes came, with the line and the column,
+/// both counted from 1, of the first byte past them; a line ends at its line feed. Each turn takes at least one byte,
+/// so there are at most `limit` + 2 calls of the source.
 pub fn read_all<S: Source>(
     alloc: Global,
     source: &mut S,

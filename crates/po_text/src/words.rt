@@ -7,7 +7,7 @@ ghost use Rattle.po_text.specs.WordEnds.{word_between, before_blank};
 use crate::{OutOfMemory, Span};
 use std::alloc::Global;
 
-/// The words of a line in their order: what stands between spaces and tabs.
+/// The words of a line in their order: what stands between spaces and tabs (docs/LANGUAGE.md, "Lines").
 pub fn split_line(alloc: Global, line: &[u8]) -> Result<Vec<Span>, OutOfMemory>
     ensures value { IfOk result (λ words. words.items ≡ words_of line.now) }
     ensures words { IfOk result (λ words. AreWordsFrom 0 line.now words.items) }

@@ -1,4 +1,4 @@
-//! Words of 32 bits: the operators and relations on them, and the one error that every crate above shares.
+//! Words of 32 bits: the operators and relations on them, and the error for want of memory.
 //!
 //! `operator` has the operators and relations with what they give; `laws` says what the signed view and a floor are;
 //! `memory` has `OutOfMemory`.
