@@ -1,2 +1,4 @@
 pub mod Words
 pub mod Exprs
+pub mod Views
+pub mod Bits
