@@ -3,6 +3,8 @@
 //! `parts` puts terms together, `sums` has the constructors of `neg`, `not`, `+` and `-`, `products` those of the other operators,
 //! `make` chooses among them, `terms` simplifies a whole term and `instr` an instruction. Each call gives what the table says, by
 //! `tree_of`, and keeps the value of the term in every state. A term is taken by value and its parts are moved, never copied.
+//!
+//! Its tests stand in `po_base_rows`.
 #![tactic(auto)]
 
 mod instr;
@@ -11,8 +13,6 @@ mod parts;
 mod products;
 mod sums;
 mod terms;
-#[cfg(test)]
-mod tests;
 
 pub use instr::{decide, simplify_instr};
 pub use make::{make_bin, make_un};

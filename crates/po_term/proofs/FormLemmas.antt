@@ -11,8 +11,8 @@ use Rattle.po_term.specs.declared.term.Reg.{Reg as Register}
 use Rattle.po_term.specs.declared.transfer.Transfer.{Transfer}
 use Rattle.po_term.specs.Tree.{Tree, Const, Leaf, Read, Unary, Binary, tree_size, tree_depth}
 use Rattle.po_term.specs.Terms.{Place}
-use Rattle.po_term.specs.Moves.{SetTo, move_of, moves_of}
-use Rattle.po_term.specs.Form.{PlainMove, Sets, GoesBefore, WellFormedMove, WellFormed}
+use Rattle.po_term.specs.Moves.{SetTo, move_of, moves_of, PlainMove}
+use Rattle.po_term.specs.Form.{Sets, GoesBefore, WellFormedMove, WellFormed}
 
 pub depth_positive : {K L : Type 0} (t : Tree K L) → 1 ≤ tree_depth t
 depth_positive (Const c) = omega arith

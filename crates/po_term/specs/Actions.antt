@@ -5,8 +5,8 @@ use Rattle.po_word.specs.Words.{rel_value}
 use Rattle.po_term.specs.declared.term.Reg.{Reg as Register}
 use Rattle.po_term.specs.declared.term.Sym.{Sym}
 use Rattle.po_term.specs.declared.term.Label.{Label}
-use Rattle.po_term.specs.Terms.{Place, State, value}
-use Rattle.po_term.specs.Moves.{GoTo, IfCc, IfTwo, CallOf, Return, Move, SetTo, CcTo, StoreTo, Ends}
+use Rattle.po_term.specs.Terms.{State, value}
+use Rattle.po_term.specs.Moves.{GoTo, IfCc, IfTwo, CallOf, Return, PlainMove, PlainInstr, SetTo, CcTo, StoreTo, Ends}
 use Rattle.po_term.specs.Worth.{HasWords}
 
 pub data Action : Type 0 where
@@ -25,7 +25,7 @@ pub data Action : Type 0 where
   Returns : Action
 
 -- what one transfer does: a branch on two terms jumps where the relation holds of their words, and does nothing elsewhere
-abbrev pub action : State → Move ℕ Place Register Sym → List Action
+abbrev pub action : State → PlainMove → List Action
 action s (SetTo r t) = Sets r (value s t) ∷ []
 action s (CcTo t u) = Compares (value s t) (value s u) ∷ []
 action s (StoreTo t u) = Stores (value s t) (value s u) ∷ []
@@ -35,23 +35,23 @@ action s (Ends (IfTwo t u r l)) = if rel_value r (value s t) (value s u) then Ju
 action s (Ends (CallOf f n)) = Calls f n ∷ []
 action s (Ends Return) = Returns ∷ []
 
-abbrev pub actions : State → List (Move ℕ Place Register Sym) → List Action
+abbrev pub actions : State → PlainInstr → List Action
 actions s [] = []
 actions s (m ∷ ms) = action s m ++ actions s ms
 
 -- the constants of its terms are words
-abbrev pub MoveHasWords : Move ℕ Place Register Sym → Type 0
+abbrev pub MoveHasWords : PlainMove → Type 0
 MoveHasWords (SetTo r t) = HasWords t
 MoveHasWords (CcTo t u) = HasWords t × HasWords u
 MoveHasWords (StoreTo t u) = HasWords t × HasWords u
 MoveHasWords (Ends (IfTwo t u r l)) = HasWords t × HasWords u
 MoveHasWords (Ends e) = Unit {0}
 
-abbrev pub MovesHaveWords : List (Move ℕ Place Register Sym) → Type 0
+abbrev pub MovesHaveWords : PlainInstr → Type 0
 MovesHaveWords [] = Unit {0}
 MovesHaveWords (m ∷ ms) = MoveHasWords m × MovesHaveWords ms
 
 -- the instruction xs has words, and does in the state what ys does
-pub record DoesAs (s : State) (xs ys : List (Move ℕ Place Register Sym)) : Type 0 where
+pub record DoesAs (s : State) (xs ys : PlainInstr) : Type 0 where
   pub words : MovesHaveWords xs
   pub does : actions s xs ≡ actions s ys

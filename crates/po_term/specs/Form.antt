@@ -1,16 +1,12 @@
 -- Well-formed instructions. An instruction is a list of moves that are done at once.
-use Rattle.std.specs.Prelude.{ℕ, ◌^◌, ◌<◌, ◌≤◌, ◌≡◌, ◌≢◌, List, length, All, AllPairs}
+use Rattle.std.specs.Prelude.{ℕ, ◌^◌, ◌<◌, ◌≤◌, ◌≡◌, ◌≢◌, length, All, AllPairs}
 use Rattle.po_term.specs.declared.term.Reg.{Reg as Register}
 use Rattle.po_term.specs.declared.term.Reg.TheVariants.{Virt, Fp, Rv, Arg}
 use Rattle.po_term.specs.declared.term.Sym.{Sym}
 use Rattle.po_term.specs.declared.term.Label.{Label}
 use Rattle.po_term.specs.Tree.{Tree, tree_size, tree_depth, EachConst, EachLeaf}
 use Rattle.po_term.specs.Terms.{Place, InReg, AtSym}
-use Rattle.po_term.specs.Moves.{Ending, GoTo, IfCc, IfTwo, CallOf, Return, Move, SetTo, CcTo, StoreTo, Ends}
-
--- a move of a code: its constants are words, its other leaves registers and symbols
-abbrev pub PlainMove : Type 0
-PlainMove = Move ℕ Place Register Sym
+use Rattle.po_term.specs.Moves.{Ending, GoTo, IfCc, IfTwo, CallOf, Return, SetTo, CcTo, StoreTo, Ends, PlainMove, PlainInstr}
 
 -- a register whose number is in its range
 abbrev pub IsRegister : Register → Type 0
@@ -18,6 +14,13 @@ IsRegister (Virt n) = n < 2 ^ 32
 IsRegister Fp = Unit {0}
 IsRegister Rv = Unit {0}
 IsRegister (Arg n) = n ≤ 3
+
+-- a register that has a name of its own: the frame, the result or an argument
+abbrev pub IsFixed : Register → Type 0
+IsFixed (Virt n) = ⊥
+IsFixed Fp = Unit {0}
+IsFixed Rv = Unit {0}
+IsFixed (Arg n) = n ≤ 3
 
 -- a register, or the address of a symbol, whose number is in its range
 abbrev pub IsPlace : Place → Type 0
@@ -61,16 +64,20 @@ Sets r (CcTo t u) = ⊥
 Sets r (StoreTo t u) = ⊥
 Sets r (Ends e) = ⊥
 
--- what holds of a move m and a later move n of one instruction
-pub record GoesBefore (m n : PlainMove) : Type 0 where
+-- what holds of a transfer m and a later one n of a list, by their kinds and by the registers that each sets
+pub record InOrder {M R : Type 0} (kind : M → ℕ) (SetsIn : R → M → Type 0) (m n : M) : Type 0 where
   -- the kinds stand in their order
-  pub in_order : kind_of m ≤ kind_of n
+  pub in_order : kind m ≤ kind n
   -- only of sets there may be more than one
-  pub once : kind_of m ≡ kind_of n → kind_of m ≡ 0
+  pub once : kind m ≡ kind n → kind m ≡ 0
   -- no register is set twice
-  pub apart : (r : Register) → Sets r m → Sets r n → ⊥
+  pub apart : (r : R) → SetsIn r m → SetsIn r n → ⊥
 
-pub record WellFormed (ms : List PlainMove) : Type 0 where
+-- of two moves of one instruction
+abbrev pub GoesBefore : PlainMove → PlainMove → Type 0
+GoesBefore m n = InOrder kind_of Sets m n
+
+pub record WellFormed (ms : PlainInstr) : Type 0 where
   pub some : 1 ≤ length ms
   pub few : length ms ≤ 4
   pub pairs : AllPairs GoesBefore ms

@@ -26,11 +26,19 @@ pub data Move (K L R S : Type 0) : Type 0 where
   StoreTo : Tree K L → Tree K L → Move K L R S
   Ends : Ending K L S → Move K L R S
 
+-- a move of a code: its constants are words, its other leaves registers and symbols
+abbrev pub PlainMove : Type 0
+PlainMove = Move ℕ Place Register Sym
+
+-- an instruction of a code
+abbrev pub PlainInstr : Type 0
+PlainInstr = List PlainMove
+
 abbrev pub branch_of : Cond → Rel → Label → Ending ℕ Place Sym
 branch_of OnCc r l = IfCc r l
 branch_of (Two t u) r l = IfTwo (tree_of t) (tree_of u) r l
 
-abbrev pub move_of : Transfer → Move ℕ Place Register Sym
+abbrev pub move_of : Transfer → PlainMove
 move_of (Set r t) = SetTo r (tree_of t)
 move_of (Cc t u) = CcTo (tree_of t) (tree_of u)
 move_of (Store t u) = StoreTo (tree_of t) (tree_of u)
@@ -39,13 +47,13 @@ move_of (If c r l) = Ends (branch_of c r l)
 move_of (Call s n) = Ends (CallOf s n)
 move_of Ret = Ends Return
 
-abbrev pub moves_of : List Transfer → List (Move ℕ Place Register Sym)
+abbrev pub moves_of : List Transfer → PlainInstr
 moves_of xs = map move_of xs
 
 -- an instruction, as its list of moves
-abbrev pub instr_of : Instr → List (Move ℕ Place Register Sym)
+abbrev pub instr_of : Instr → PlainInstr
 instr_of i = moves_of i.xs.items
 
 -- the instructions of a code
-abbrev pub instrs_of : List Instr → List (List (Move ℕ Place Register Sym))
+abbrev pub instrs_of : List Instr → List PlainInstr
 instrs_of is = map instr_of is

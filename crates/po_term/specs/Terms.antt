@@ -11,8 +11,12 @@ pub data Place : Type 0 where
   InReg : Register → Place
   AtSym : Sym → Place
 
+-- a term of a code
+abbrev pub PlainTerm : Type 0
+PlainTerm = Tree ℕ Place
+
 -- the term as a plain tree, without its boxes
-abbrev pub tree_of : Term → Tree ℕ Place
+abbrev pub tree_of : Term → PlainTerm
 tree_of (Num c) = Const c
 tree_of (Reg r) = Leaf (InReg r)
 tree_of (Addr s) = Leaf (AtSym s)
@@ -36,7 +40,7 @@ abbrev pub stored : ℕ → ℕ → State → State
 stored a w s = record s { memory = λ b. if b == a then w else s.memory b }
 
 -- the word of a term in a state
-abbrev pub value : State → Tree ℕ Place → ℕ
+abbrev pub value : State → PlainTerm → ℕ
 value s (Const c) = c
 value s (Leaf l) = s.place l
 value s (Read x) = s.memory (value s x)

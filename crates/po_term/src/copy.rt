@@ -4,7 +4,7 @@ ghost use Rattle.po_term.specs.Terms.{tree_of};
 ghost use Rattle.po_term.specs.Moves.{move_of, moves_of, instr_of};
 
 use crate::{Cond, Instr, Term, Transfer};
-use po_word::OutOfMemory;
+use po_word::{OutOfMemory, push};
 use std::alloc::Global;
 
 /// A term that equals t, or want of memory. It recurses as deep as the term is.
@@ -15,22 +15,13 @@ pub fn copy_term(alloc: Global, t: &Term) -> Result<Term, OutOfMemory>
         Term::Num(c) => Ok(Term::Num(*c)),
         Term::Reg(r) => Ok(Term::Reg(*r)),
         Term::Addr(s) => Ok(Term::Addr(*s)),
-        Term::Mem(x) => Ok(Term::Mem(boxed(alloc, copy_term(alloc, x)?)?)),
-        Term::Un(o, x) => Ok(Term::Un(*o, boxed(alloc, copy_term(alloc, x)?)?)),
+        Term::Mem(x) => Ok(Term::Mem(Box::new(alloc, copy_term(alloc, x)?)?)),
+        Term::Un(o, x) => Ok(Term::Un(*o, Box::new(alloc, copy_term(alloc, x)?)?)),
         Term::Bin(o, x, y) => Ok(Term::Bin(
             *o,
-            boxed(alloc, copy_term(alloc, x)?)?,
-            boxed(alloc, copy_term(alloc, y)?)?,
+            Box::new(alloc, copy_term(alloc, x)?)?,
+            Box::new(alloc, copy_term(alloc, y)?)?,
         )),
-    }
-}
-
-fn boxed(alloc: Global, t: Term) -> Result<Box<Term>, OutOfMemory>
-    ensures { IfOk result (λ b. b.value ≡ t) }
-{
-    match Box::new(alloc, t) {
-        Ok(b) => Ok(b),
-        Err(_) => Err(OutOfMemory),
     }
 }
 
@@ -50,15 +41,6 @@ fn add_copy(alloc: Global, xs: &mut Vec<Transfer>, t: &Transfer) -> Result<(), O
 {
     let c = copy_transfer(alloc, t)?;
     push(xs, c)
-}
-
-fn push(xs: &mut Vec<Transfer>, t: Transfer) -> Result<(), OutOfMemory>
-    ensures { OnOk result (xs.new.items ≡ xs.old.items ++ t ∷ []) }
-{
-    match xs.push(t) {
-        Ok(()) => Ok(()),
-        Err(_) => Err(OutOfMemory),
-    }
 }
 
 fn copy_transfer(alloc: Global, t: &Transfer) -> Result<Transfer, OutOfMemory>
