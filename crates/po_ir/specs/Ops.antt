@@ -24,149 +24,64 @@ key_of (op.Arg k) = key.Arg
 key_of (op.Call f n) = key.Call
 key_of op.Ret = key.Ret
 
--- so many values are taken from the stack; `dup` takes one, and puts it back twice
+-- One operation: how many values it takes and puts back, whether a block ends or begins there (the stack is then empty, but for what it
+-- takes), whether what stands behind it is not reached from it, the labels that it names and goes to, the arguments that it sets, and how
+-- many have to be set before it in its block.
+pub record Facts : Type 0 where
+  pub pops : ℕ
+  pub pushes : ℕ
+  pub boundary : Bool
+  pub leaves : Bool
+  pub label : List (List ℕ)
+  pub target : List (List ℕ)
+  pub arg : List ℕ
+  pub wanted : ℕ
+
+abbrev pub row : ℕ → ℕ → Bool → Bool → List (List ℕ) → List (List ℕ) → List ℕ → ℕ → Facts
+row pops pushes boundary leaves label target arg wanted = record { pops = pops; pushes = pushes; boundary = boundary; leaves = leaves; label = label; target = target; arg = arg; wanted = wanted }
+
+-- `dup` takes one, and puts it back twice
+abbrev pub facts : Op → Facts
+--                   pops pushes boundary leaves label    target   arg      wanted
+facts (op.Con n) = row 0 1 false false [] [] [] 0
+facts (op.Adl n) = row 0 1 false false [] [] [] 0
+facts (op.Adg s) = row 0 1 false false [] [] [] 0
+facts op.Lod = row 1 1 false false [] [] [] 0
+facts op.Sto = row 2 0 false false [] [] [] 0
+facts (op.Bin o) = row 2 1 false false [] [] [] 0
+facts (op.Un o) = row 1 1 false false [] [] [] 0
+facts op.Dup = row 1 2 false false [] [] [] 0
+facts op.Pop = row 1 0 false false [] [] [] 0
+facts (op.Lab l) = row 0 0 true false (l ∷ []) [] [] 0
+facts (op.Jmp l) = row 0 0 true true [] (l ∷ []) [] 0
+facts (op.Br r l) = row 2 0 true false [] (l ∷ []) [] 0
+facts (op.Arg k) = row 1 0 false false [] [] (k ∷ []) 0
+facts (op.Call f n) = row 0 1 true false [] [] [] n
+facts op.Ret = row 1 0 true true [] [] [] 0
+
 abbrev pub pops : Op → ℕ
-pops (op.Con n) = 0
-pops (op.Adl n) = 0
-pops (op.Adg s) = 0
-pops op.Lod = 1
-pops op.Sto = 2
-pops (op.Bin o) = 2
-pops (op.Un o) = 1
-pops op.Dup = 1
-pops op.Pop = 1
-pops (op.Lab l) = 0
-pops (op.Jmp l) = 0
-pops (op.Br r l) = 2
-pops (op.Arg k) = 1
-pops (op.Call f n) = 0
-pops op.Ret = 1
+pops o = (facts o).pops
 
--- so many are put onto it
 abbrev pub pushes : Op → ℕ
-pushes (op.Con n) = 1
-pushes (op.Adl n) = 1
-pushes (op.Adg s) = 1
-pushes op.Lod = 1
-pushes op.Sto = 0
-pushes (op.Bin o) = 1
-pushes (op.Un o) = 1
-pushes op.Dup = 2
-pushes op.Pop = 0
-pushes (op.Lab l) = 0
-pushes (op.Jmp l) = 0
-pushes (op.Br r l) = 0
-pushes (op.Arg k) = 0
-pushes (op.Call f n) = 1
-pushes op.Ret = 0
+pushes o = (facts o).pushes
 
--- a block ends or begins there: the stack is empty, but for what the operation takes
 abbrev pub is_boundary : Op → Bool
-is_boundary (op.Con n) = false
-is_boundary (op.Adl n) = false
-is_boundary (op.Adg s) = false
-is_boundary op.Lod = false
-is_boundary op.Sto = false
-is_boundary (op.Bin o) = false
-is_boundary (op.Un o) = false
-is_boundary op.Dup = false
-is_boundary op.Pop = false
-is_boundary (op.Lab l) = true
-is_boundary (op.Jmp l) = true
-is_boundary (op.Br r l) = true
-is_boundary (op.Arg k) = false
-is_boundary (op.Call f n) = true
-is_boundary op.Ret = true
+is_boundary o = (facts o).boundary
 
--- what stands behind it is not reached from it
 abbrev pub leaves : Op → Bool
-leaves (op.Con n) = false
-leaves (op.Adl n) = false
-leaves (op.Adg s) = false
-leaves op.Lod = false
-leaves op.Sto = false
-leaves (op.Bin o) = false
-leaves (op.Un o) = false
-leaves op.Dup = false
-leaves op.Pop = false
-leaves (op.Lab l) = false
-leaves (op.Jmp l) = true
-leaves (op.Br r l) = false
-leaves (op.Arg k) = false
-leaves (op.Call f n) = false
-leaves op.Ret = true
+leaves o = (facts o).leaves
 
--- the label that it names
 abbrev pub label_in : Op → List (List ℕ)
-label_in (op.Con n) = []
-label_in (op.Adl n) = []
-label_in (op.Adg s) = []
-label_in op.Lod = []
-label_in op.Sto = []
-label_in (op.Bin o) = []
-label_in (op.Un o) = []
-label_in op.Dup = []
-label_in op.Pop = []
-label_in (op.Lab l) = l ∷ []
-label_in (op.Jmp l) = []
-label_in (op.Br r l) = []
-label_in (op.Arg k) = []
-label_in (op.Call f n) = []
-label_in op.Ret = []
+label_in o = (facts o).label
 
--- the label that it goes to
 abbrev pub target_in : Op → List (List ℕ)
-target_in (op.Con n) = []
-target_in (op.Adl n) = []
-target_in (op.Adg s) = []
-target_in op.Lod = []
-target_in op.Sto = []
-target_in (op.Bin o) = []
-target_in (op.Un o) = []
-target_in op.Dup = []
-target_in op.Pop = []
-target_in (op.Lab l) = []
-target_in (op.Jmp l) = l ∷ []
-target_in (op.Br r l) = l ∷ []
-target_in (op.Arg k) = []
-target_in (op.Call f n) = []
-target_in op.Ret = []
+target_in o = (facts o).target
 
--- the argument that it sets
 abbrev pub arg_in : Op → List ℕ
-arg_in (op.Con n) = []
-arg_in (op.Adl n) = []
-arg_in (op.Adg s) = []
-arg_in op.Lod = []
-arg_in op.Sto = []
-arg_in (op.Bin o) = []
-arg_in (op.Un o) = []
-arg_in op.Dup = []
-arg_in op.Pop = []
-arg_in (op.Lab l) = []
-arg_in (op.Jmp l) = []
-arg_in (op.Br r l) = []
-arg_in (op.Arg k) = k ∷ []
-arg_in (op.Call f n) = []
-arg_in op.Ret = []
+arg_in o = (facts o).arg
 
--- so many arguments have to be set before it, in its block
 abbrev pub args_wanted : Op → ℕ
-args_wanted (op.Con n) = 0
-args_wanted (op.Adl n) = 0
-args_wanted (op.Adg s) = 0
-args_wanted op.Lod = 0
-args_wanted op.Sto = 0
-args_wanted (op.Bin o) = 0
-args_wanted (op.Un o) = 0
-args_wanted op.Dup = 0
-args_wanted op.Pop = 0
-args_wanted (op.Lab l) = 0
-args_wanted (op.Jmp l) = 0
-args_wanted (op.Br r l) = 0
-args_wanted (op.Arg k) = 0
-args_wanted (op.Call f n) = n
-args_wanted op.Ret = 0
+args_wanted o = (facts o).wanted
 
 -- what it makes of so many values on the stack
 abbrev pub depth_by : ℕ → Op → ℕ

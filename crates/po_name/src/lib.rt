@@ -1,8 +1,8 @@
 //! Names: of machines, registers, units, labels and symbols.
+//!
+//! Its tests stand in `po_base_rows`.
 #![tactic(auto)]
 
 mod name;
-#[cfg(test)]
-mod tests;
 
 pub use name::Name;

@@ -1,6 +1,8 @@
 //! Bytes that come in and go out, and the words and numbers in them. A source and a sink say which bytes they still
 //! have or have kept, and count their faults, so that each answer other than success has its cause. Nothing here
 //! knows what the bytes mean: the kinds of faults of a text stand here for the crates that read one.
+//!
+//! Its tests stand in `po_base_rows`.
 #![tactic(auto)]
 
 mod fault;
@@ -9,8 +11,6 @@ mod number;
 mod sink;
 mod source;
 mod standard;
-#[cfg(test)]
-mod tests;
 mod words;
 
 pub use fault::{Kind, OutOfMemory, ReadRefusal, Span, Spot, TextRefusal, WriteFault};
