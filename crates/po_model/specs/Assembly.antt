@@ -11,11 +11,12 @@ use Rattle.po_model.specs.declared.machine.Machine.{Machine}
 use Rattle.po_model.specs.declared.machine.Entry.{Entry}
 use Rattle.po_model.specs.declared.machine.Piece.{Piece}
 use Rattle.po_model.specs.declared.machine.Piece.TheVariants.{Byte, Reg, Num, Label, Sym}
-use Rattle.po_model.specs.Blocks.{PlainInstr, PlainBlock}
-use Rattle.po_model.specs.Fit.{Found, Thing, ARegister, AConstant, ASymbol, ALabel, places, operand_of, fit}
+use Rattle.po_model.specs.Blocks.{PlainBlock}
+use Rattle.po_model.specs.Fit.{Found, Thing, ARegister, AConstant, ASymbol, ALabel, operand_of, fit}
 use Rattle.po_model.specs.Fitted.{TellsCc}
 use Rattle.po_model.specs.Placement.{machine_of}
 use Rattle.po_model.specs.UnitCodes.{PlainUnit}
+use Rattle.po_term.specs.Moves.{PlainInstr}
 
 -- the name at a place of a list, or nothing
 abbrev pub name_at : List (List ℕ) → ℕ → List ℕ
@@ -50,7 +51,7 @@ module _ (m : Machine) (at : ℕ → ℕ) where
 
     -- what the operand k stands for: nothing where k is no digit, or the pattern doesn't have it
     abbrev pub operand_text : List (Found ℕ Register Symbol) → ℕ → List ℕ
-    operand_text fs k = thing_text (if nat_lt k 10 then operand_of places k fs else None)
+    operand_text fs k = thing_text (if nat_lt k 10 then operand_of k fs else None)
 
     abbrev pub piece_text : List (Found ℕ Register Symbol) → Piece → List ℕ
     piece_text fs (Byte b) = b ∷ []

@@ -3,13 +3,10 @@ use Rattle.std.specs.Prelude.{ℕ, zero, suc, ◌≡◌, ◌==◌, nat_lt, Bool,
 use Rattle.po_term.specs.declared.term.Sym.{Sym}
 use Rattle.po_term.specs.declared.term.Label.{Label}
 use Rattle.po_term.specs.Terms.{Place}
-use Rattle.po_term.specs.Moves.{Ending, GoTo, IfCc, IfTwo, CallOf, Return, SetTo, CcTo, StoreTo, Ends, instrs_of}
-use Rattle.po_term.specs.Form.{PlainMove}
+use Rattle.po_term.specs.Moves.{Ending, GoTo, IfCc, IfTwo, CallOf, Return, PlainInstr, instrs_of}
 use Rattle.po_model.specs.declared.code.Block.{Block}
 use Rattle.po_model.specs.declared.code.Code.{Code}
-
-abbrev pub PlainInstr : Type 0
-PlainInstr = List PlainMove
+use Rattle.po_model.specs.Parts.{ending_of}
 
 pub record PlainBlock : Type 0 where
   pub label : Option Label
@@ -21,15 +18,7 @@ block_of b = record { label = b.label; instrs = instrs_of b.instrs.items }
 abbrev pub code_of : Code → List PlainBlock
 code_of c = map block_of c.blocks.items
 
--- the control transfer of an instruction, where it has one
-abbrev pub ending_of : PlainInstr → Option (Ending ℕ Place Sym)
-ending_of [] = None
-ending_of (SetTo r t ∷ ms) = ending_of ms
-ending_of (CcTo t u ∷ ms) = ending_of ms
-ending_of (StoreTo t u ∷ ms) = ending_of ms
-ending_of (Ends e ∷ ms) = Some e
-
--- that of a block: the one of its last instruction
+-- the control transfer of a block: that of its last instruction
 abbrev pub block_ending : List PlainInstr → Option (Ending ℕ Place Sym)
 block_ending [] = None
 block_ending (x ∷ []) = ending_of x

@@ -3,39 +3,30 @@ use Rattle.std.specs.Prelude.{ℕ, suc, zero, ◌==◌, Bool, true, false, if◌
 use Rattle.std.specs.Option.{option_map}
 use Rattle.po_word.specs.declared.operator.Rel.{Rel}
 use Rattle.po_word.specs.Words.{rel_value}
-use Rattle.po_term.specs.declared.term.Reg.{Reg as Register}
 use Rattle.po_term.specs.declared.term.Reg.TheVariants.{Rv, Arg}
 use Rattle.po_term.specs.declared.term.Sym.{Sym}
 use Rattle.po_term.specs.declared.term.Label.{Label}
-use Rattle.po_term.specs.Tree.{Tree}
-use Rattle.po_term.specs.Terms.{Place, InReg, State, value}
-use Rattle.po_term.specs.Moves.{Ending, GoTo, IfCc, IfTwo, CallOf, Return, Move}
-use Rattle.po_model.specs.Parts.{plainly, cc_of, store_of, ending_of, right_at}
-
--- a term of a code, and a transfer
-abbrev pub Word : Type 0
-Word = Tree ℕ Place
-
-abbrev pub Step : Type 0
-Step = Move ℕ Place Register Sym
+use Rattle.po_term.specs.Terms.{Place, InReg, PlainTerm, State, value}
+use Rattle.po_term.specs.Moves.{Ending, GoTo, IfCc, IfTwo, CallOf, Return, PlainInstr}
+use Rattle.po_model.specs.Parts.{code_leaves, cc_of, store_of, ending_of, right_at}
 
 -- the word of the right side in the state, and the old word without one
-abbrev pub new_word : State → Option Word → ℕ → ℕ
+abbrev pub new_word : State → Option PlainTerm → ℕ → ℕ
 new_word s None old = old
 new_word s (Some t) old = value s t
 
-abbrev pub new_memory : State → Option (Word × Word) → ℕ → ℕ
+abbrev pub new_memory : State → Option (PlainTerm × PlainTerm) → ℕ → ℕ
 new_memory s None = s.memory
 new_memory s (Some m) = λ b. if b == value s m.0 then value s m.1 else s.memory b
 
-abbrev pub new_cc : State → Option (Word × Word) → Option (ℕ × ℕ)
+abbrev pub new_cc : State → Option (PlainTerm × PlainTerm) → Option (ℕ × ℕ)
 new_cc s None = s.cc
 new_cc s (Some m) = Some (value s m.0, value s m.1)
 
 -- everything is read in s, then all is set
-abbrev pub after : State → List Step → State
+abbrev pub after : State → PlainInstr → State
 after s ms = record {
-  place = λ p. new_word s (right_at plainly p ms) (s.place p);
+  place = λ p. new_word s (right_at code_leaves p ms) (s.place p);
   memory = new_memory s (store_of ms);
   cc = new_cc s (cc_of ms);
 }
@@ -69,10 +60,11 @@ goes s (Some (IfTwo t u r l)) = Some (branch (rel_value r (value s t) (value s u
 goes s (Some (CallOf f n)) = Some (Called f (arguments s n 0))
 goes s (Some Return) = Some (Returned (s.place (InReg Rv)))
 
-pub record Done : Type 0 where
+-- what an instruction comes to: the state after it, and where the code goes on
+pub record Effected : Type 0 where
   pub state : State
   pub to : Control
 
 -- what an instruction does in a state: none where it branches on a cc that is empty
-abbrev pub effect : List Step → State → Option Done
+abbrev pub effect : PlainInstr → State → Option Effected
 effect ms s = option_map (λ c. record { state = after s ms; to = c }) (goes s (ending_of ms))

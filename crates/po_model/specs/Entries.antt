@@ -1,8 +1,9 @@
 -- The entries that a description may have.
-use Rattle.std.specs.Prelude.{ℕ, ◌<◌, ◌≤◌, ◌≡◌, ◌≢◌, ◌^◌, ℤ, pos, negsuc, int_le, List, [], ◌∷◌, ◌++◌, length, flat_map, All, AllPairs, Contains, Bool, true, false, IsTrue, Option, Some, None, ⊤}
-use Rattle.po_term.specs.declared.term.Reg.{Reg as Register}
-use Rattle.po_term.specs.declared.term.Reg.TheVariants.{Virt, Fp, Rv, Arg}
+use Rattle.std.specs.Prelude.{ℕ, ◌<◌, ◌≤◌, ◌≡◌, ◌≢◌, ◌^◌, pos, negsuc, int_le, List, [], ◌∷◌, ◌++◌, length, flat_map, All, AllPairs, Contains, Bool, true, false, IsTrue, Option, Some, None, ⊤}
+use Rattle.po_term.specs.declared.term.Reg.TheVariants.{Fp}
 use Rattle.po_term.specs.Tree.{Const, Leaf, Read, Unary, Binary, tree_size, tree_depth, EachConst, EachLeaf}
+use Rattle.po_term.specs.Form.{IsFixed, InOrder}
+use Rattle.po_model.specs.declared.machine.Bounds.{Bounds}
 use Rattle.po_model.specs.declared.machine.PatReg.{PatReg}
 use Rattle.po_model.specs.declared.machine.PatReg.TheVariants as register
 use Rattle.po_model.specs.declared.machine.Piece.{Piece}
@@ -10,26 +11,19 @@ use Rattle.po_model.specs.declared.machine.Piece.TheVariants as piece
 use Rattle.po_model.specs.declared.machine.Entry.{Entry}
 use Rattle.po_model.specs.Patterns.{PatConst, Exactly, Operand, PatLeaf, InPatReg, AtSymbol, PatTree, PatMove, SetsTo, Compares, Stores, Jumps, Branches, BranchesOn, Calls, Returns, pat_moves_of}
 
--- a register that has a name of its own: the frame, the result or an argument
-abbrev pub IsFixed : Register → Type 0
-IsFixed (Virt n) = ⊥
-IsFixed Fp = ⊤
-IsFixed Rv = ⊤
-IsFixed (Arg n) = n ≤ 3
-
 abbrev pub IsPatReg : PatReg → Type 0
 IsPatReg (register.Any k) = k < 10
 IsPatReg (register.Fixed r) = IsFixed r
 
 -- a range of signed words, which has at least one
-pub record IsRange (low high : ℤ) : Type 0 where
-  pub from : IsTrue (int_le (negsuc 2147483647) low)
-  pub order : IsTrue (int_le low high)
-  pub to : IsTrue (int_le high (pos 2147483647))
+pub record IsRange (b : Bounds) : Type 0 where
+  pub from : IsTrue (int_le (negsuc 2147483647) b.lo)
+  pub order : IsTrue (int_le b.lo b.hi)
+  pub to : IsTrue (int_le b.hi (pos 2147483647))
 
-abbrev pub HasRange : Option (ℤ × ℤ) → Type 0
+abbrev pub HasRange : Option Bounds → Type 0
 HasRange None = ⊤
-HasRange (Some r) = IsRange r.0 r.1
+HasRange (Some b) = IsRange b
 
 abbrev pub IsPatConst : PatConst → Type 0
 IsPatConst (Exactly n) = n < 2 ^ 32
@@ -83,14 +77,9 @@ Sets r (BranchesOn t u s k) = ⊥
 Sets r (Calls k) = ⊥
 Sets r Returns = ⊥
 
--- what holds of a transfer m and a later transfer n of one entry
-pub record GoesBefore (m n : PatMove) : Type 0 where
-  -- the kinds stand in their order
-  pub in_order : kind_of m ≤ kind_of n
-  -- only of sets there may be more than one
-  pub once : kind_of m ≡ kind_of n → kind_of m ≡ 0
-  -- no register is set twice
-  pub apart : (r : PatReg) → Sets r m → Sets r n → ⊥
+-- of two transfers of one entry
+abbrev pub GoesBefore : PatMove → PatMove → Type 0
+GoesBefore m n = InOrder kind_of Sets m n
 
 -- what an operand stands for: `%k` a register, `#k` a constant, `&k` a symbol, `@k` a label
 pub data Sort : Type 0 where
@@ -108,7 +97,7 @@ pub record Place : Type 0 where
 abbrev pub place : ℕ → Sort → Bool → Place
 place k s ranged = record { digit = k; sort = s; ranged = ranged }
 
-abbrev pub has_range : Option (ℤ × ℤ) → Bool
+abbrev pub has_range : Option Bounds → Bool
 has_range None = false
 has_range (Some r) = true
 

@@ -5,9 +5,10 @@ use Rattle.po_term.specs.declared.term.Reg.{Reg}
 use Rattle.po_term.specs.declared.term.Sym.{Sym}
 use Rattle.po_model.specs.declared.machine.Machine.{Machine}
 use Rattle.po_model.specs.declared.var.Var.TheVariants.{Cc}
-use Rattle.po_model.specs.Blocks.{PlainInstr, PlainBlock, instrs_at}
+use Rattle.po_model.specs.Blocks.{PlainBlock, instrs_at}
 use Rattle.po_model.specs.Fit.{Found, fit}
 use Rattle.po_model.specs.LiveAfter.{LiveAfter}
+use Rattle.po_term.specs.Moves.{PlainInstr}
 
 -- the instruction at a place of a block; behind its last one there is none
 abbrev pub instr_at : ℕ → List PlainInstr → PlainInstr

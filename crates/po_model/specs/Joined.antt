@@ -9,7 +9,7 @@ use Rattle.po_term.specs.Tree.{Tree, Leaf}
 use Rattle.po_term.specs.Moves.{IfCc, IfTwo, CallOf, Return, Move, SetTo, CcTo, StoreTo, Ends}
 use Rattle.po_term.specs.Kinds.{Kind, Met, give, and_then}
 use Rattle.po_term.specs.Simplified.{decided, simple_moves}
-use Rattle.po_model.specs.Parts.{Sameness, cc_of, store_of, right_at}
+use Rattle.po_model.specs.Parts.{Leaves, cc_of, store_of, right_at}
 use Rattle.po_model.specs.Forward.{and_some, some_of, alias_of, forward}
 
 -- what two instructions come to: they stay two, nothing is left of them, or a list of transfers
@@ -23,10 +23,10 @@ is_same alias.Same = true
 is_same alias.Apart = false
 is_same alias.Maybe = false
 
-module _ {K L R : Type 0} (k : Kind K) (same : Sameness L R) where
+module _ {K L R S : Type 0} (k : Kind K) (leaves : Leaves L R S) where
   -- whether B's store leaves nothing of A's: of two stores, whether their addresses are the same
   abbrev pub covers : Option (Tree K L × Tree K L) → Option (Tree K L × Tree K L) → Met K Bool
-  covers (Some x) (Some y) = and_then (alias_of k same x.0 y.0) (λ meets. give (is_same meets))
+  covers (Some x) (Some y) = and_then (alias_of k leaves x.0 y.0) (λ meets. give (is_same meets))
   covers x y = give true
 
 module _ {K L R S : Type 0} where
@@ -56,10 +56,10 @@ module _ {K L R S : Type 0} where
   abbrev pub in_order : List (Move K L R S) → List (Move K L R S)
   in_order ms = filter is_set ms ++ filter is_cc ms ++ filter is_store ms ++ filter is_control ms
 
-  -- r := r, where `same` says of leaves whether they are one
-  abbrev pub is_idle : Sameness L R → Move K L R S → Bool
-  is_idle same (SetTo r (Leaf l)) = same.same_register l (same.in_register r)
-  is_idle same m = false
+  -- r := r
+  abbrev pub is_idle : Leaves L R S → Move K L R S → Bool
+  is_idle leaves (SetTo r (Leaf l)) = leaves.same_register l (leaves.in_register r)
+  is_idle leaves m = false
 
   -- a list of transfers, or nothing
   abbrev pub listed : List (Move K L R S) → Joint K L R S
@@ -73,29 +73,29 @@ module _ {K L R S : Type 0} where
   is_wanted live cc_live m = true
 
   -- a transfer of A that stays beside b: a set or cc that is live and that b doesn't set, and a store where b has none
-  abbrev pub is_kept : Sameness L R → (R → Bool) → Bool → List (Move K L R S) → Move K L R S → Bool
-  is_kept same live cc_live b (SetTo r t) = live r && not (is_some (right_at same (same.in_register r) b))
-  is_kept same live cc_live b (CcTo t u) = cc_live && not (is_some (cc_of b))
-  is_kept same live cc_live b (StoreTo t u) = not (is_some (store_of b))
-  is_kept same live cc_live b (Ends e) = false
+  abbrev pub is_kept : Leaves L R S → (R → Bool) → Bool → List (Move K L R S) → Move K L R S → Bool
+  is_kept leaves live cc_live b (SetTo r t) = live r && not (is_some (right_at leaves (leaves.in_register r) b))
+  is_kept leaves live cc_live b (CcTo t u) = cc_live && not (is_some (cc_of b))
+  is_kept leaves live cc_live b (StoreTo t u) = not (is_some (store_of b))
+  is_kept leaves live cc_live b (Ends e) = false
 
   -- the list of what stays of A and of B: a is A simplified, wanted is B without what isn't live, and b is that with its terms
   -- forwarded through a
-  abbrev pub assembled : Sameness L R → (R → Bool) → Bool → List (Move K L R S) → List (Move K L R S) → List (Move K L R S) → List (Move K L R S)
-  assembled same live cc_live a wanted b = filter (λ m. not (is_idle same m)) (in_order (filter (is_kept same live cc_live wanted) a ++ b))
+  abbrev pub assembled : Leaves L R S → (R → Bool) → Bool → List (Move K L R S) → List (Move K L R S) → List (Move K L R S) → List (Move K L R S)
+  assembled leaves live cc_live a wanted b = filter (λ m. not (is_idle leaves m)) (in_order (filter (is_kept leaves live cc_live wanted) a ++ b))
 
-module _ {K L R S : Type 0} (k : Kind K) (same : Sameness L R) where
+module _ {K L R S : Type 0} (k : Kind K) (leaves : Leaves L R S) where
   -- a branch on cc: it compares what A compares, where A does
   abbrev pub forward_branch : Option (Tree K L × Tree K L) → Rel → Label → Met K (List (Move K L R S))
   forward_branch None r l = give (Ends (IfCc r l) ∷ [])
-  forward_branch (Some two) r l = decided k same.same_register two.0 two.1 r l
+  forward_branch (Some two) r l = decided k leaves.same_register two.0 two.1 r l
 
   -- a transfer with its terms forwarded through A, from left to right, and then a branch on two constants decided
   abbrev pub forward_move : List (Move K L R S) → Move K L R S → Met K (Option (List (Move K L R S)))
-  forward_move a (SetTo r t) = and_some (forward k same a t) (λ x. give (Some (SetTo r x ∷ [])))
-  forward_move a (CcTo t u) = and_some (forward k same a t) (λ x. and_some (forward k same a u) (λ y. give (Some (CcTo x y ∷ []))))
-  forward_move a (StoreTo t u) = and_some (forward k same a t) (λ x. and_some (forward k same a u) (λ y. give (Some (StoreTo x y ∷ []))))
-  forward_move a (Ends (IfTwo t u r l)) = and_some (forward k same a t) (λ x. and_some (forward k same a u) (λ y. some_of (decided k same.same_register x y r l)))
+  forward_move a (SetTo r t) = and_some (forward k leaves a t) (λ x. give (Some (SetTo r x ∷ [])))
+  forward_move a (CcTo t u) = and_some (forward k leaves a t) (λ x. and_some (forward k leaves a u) (λ y. give (Some (CcTo x y ∷ []))))
+  forward_move a (StoreTo t u) = and_some (forward k leaves a t) (λ x. and_some (forward k leaves a u) (λ y. give (Some (StoreTo x y ∷ []))))
+  forward_move a (Ends (IfTwo t u r l)) = and_some (forward k leaves a t) (λ x. and_some (forward k leaves a u) (λ y. some_of (decided k leaves.same_register x y r l)))
   forward_move a (Ends (IfCc r l)) = some_of (forward_branch (cc_of a) r l)
   forward_move a (Ends e) = give (Some (Ends e ∷ []))
 
@@ -103,16 +103,16 @@ module _ {K L R S : Type 0} (k : Kind K) (same : Sameness L R) where
   forward_moves a [] = give (Some [])
   forward_moves a (m ∷ ms) = and_some (forward_move a m) (λ xs. and_some (forward_moves a ms) (λ ys. give (Some (xs ++ ys))))
 
-module _ {K L R S : Type 0} (k : Kind K) (same : Sameness L R) (live : R → Bool) (cc_live : Bool) where
+module _ {K L R S : Type 0} (k : Kind K) (leaves : Leaves L R S) (live : R → Bool) (cc_live : Bool) where
   abbrev pub with_forwarded : List (Move K L R S) → List (Move K L R S) → Option (List (Move K L R S)) → Met K (Joint K L R S)
   with_forwarded a wanted None = give NotJoined
-  with_forwarded a wanted (Some b) = and_then (covers k same (store_of a) (store_of b)) (λ yes. give (if yes then listed (assembled same live cc_live a wanted b) else NotJoined))
+  with_forwarded a wanted (Some b) = and_then (covers k leaves (store_of a) (store_of b)) (λ yes. give (if yes then listed (assembled leaves live cc_live a wanted b) else NotJoined))
 
   abbrev pub join_simple : List (Move K L R S) → List (Move K L R S) → Met K (Joint K L R S)
-  join_simple a wanted = and_then (forward_moves k same a wanted) (λ b. with_forwarded a wanted b)
+  join_simple a wanted = and_then (forward_moves k leaves a wanted) (λ b. with_forwarded a wanted b)
 
   -- what A and B come to
   abbrev pub joined : List (Move K L R S) → List (Move K L R S) → Met K (Joint K L R S)
   joined a b =
       if list_any is_control a || list_any is_away b then give NotJoined
-      else and_then (simple_moves k same.same_register a) (λ simple_a. join_simple simple_a (filter (is_wanted live cc_live) b))
+      else and_then (simple_moves k leaves.same_register a) (λ simple_a. join_simple simple_a (filter (is_wanted live cc_live) b))

@@ -6,12 +6,11 @@ use Rattle.po_term.specs.declared.term.Reg.{Reg as Register}
 use Rattle.po_term.specs.declared.term.Reg.TheVariants.{Virt, Fp, Rv, Arg}
 use Rattle.po_term.specs.Tree.{Tree, Const, Leaf, Read, Unary, Binary}
 use Rattle.po_term.specs.Terms.{Place, InReg, AtSym}
-use Rattle.po_term.specs.Moves.{GoTo, IfCc, IfTwo, CallOf, Return, SetTo, CcTo, StoreTo, Ends}
-use Rattle.po_term.specs.Form.{PlainMove}
+use Rattle.po_term.specs.Moves.{GoTo, IfCc, IfTwo, CallOf, Return, SetTo, CcTo, StoreTo, Ends, PlainMove, PlainInstr}
 use Rattle.po_term.specs.Simplified.{reg_eq}
 use Rattle.po_model.specs.declared.var.Var.{Var}
 use Rattle.po_model.specs.declared.var.Var.TheVariants.{Reg, Cc}
-use Rattle.po_model.specs.Blocks.{PlainInstr, PlainBlock, instrs_at, leads}
+use Rattle.po_model.specs.Blocks.{PlainBlock, instrs_at, leads}
 
 abbrev pub is_reg : Register → Var → Bool
 is_reg r (Reg q) = reg_eq r q
@@ -100,3 +99,7 @@ module _ (code : List PlainBlock) where
   -- v is live after the instruction i of the block b
   abbrev pub LiveAfter : ℕ → ℕ → Var → Type 0
   LiveAfter b i v = IsLive v (record { block = b; rest = drop (suc i) (instrs_at code b) })
+
+  -- v is live at the start of the block b
+  abbrev pub IsLiveAt : ℕ → Var → Type 0
+  IsLiveAt b v = IsLive v (record { block = b; rest = instrs_at code b })

@@ -9,15 +9,15 @@ use Rattle.po_term.specs.declared.term.Sym.{Sym}
 use Rattle.po_term.specs.declared.term.Label.{Label}
 use Rattle.po_term.specs.Tree.{Tree, Const, Leaf, Read, Unary, Binary}
 use Rattle.po_term.specs.Terms.{Place, InReg, AtSym}
-use Rattle.po_term.specs.Moves.{GoTo, IfCc, CallOf, Return, SetTo, CcTo, StoreTo, Ends}
-use Rattle.po_term.specs.Form.{PlainMove}
+use Rattle.po_term.specs.Moves.{GoTo, IfCc, CallOf, Return, SetTo, CcTo, StoreTo, Ends, PlainMove, PlainInstr}
 use Rattle.po_lines.specs.NameList.{has}
 use Rattle.po_ir.specs.declared.unit.Op.{Op}
 use Rattle.po_ir.specs.declared.unit.Op.TheVariants as op
 use Rattle.po_ir.specs.declared.unit.Unit.{Unit as StackUnit}
 use Rattle.po_ir.specs.Ops.{labels_of}
-use Rattle.po_model.specs.Blocks.{PlainInstr, PlainBlock, ending_of}
+use Rattle.po_model.specs.Blocks.{PlainBlock}
 use Rattle.po_model.specs.UnitCodes.{PlainUnit}
+use Rattle.po_model.specs.Parts.{ending_of}
 
 abbrev pub Text : Type 0
 Text = List ℕ

@@ -4,11 +4,10 @@ use Rattle.std.specs.List.{list_any}
 use Rattle.po_term.specs.declared.term.Reg.{Reg as Register}
 use Rattle.po_term.specs.Terms.{InReg}
 use Rattle.po_term.specs.Simplified.{reg_eq}
-use Rattle.po_term.specs.Moves.{instr_of}
+use Rattle.po_term.specs.Moves.{instr_of, PlainInstr}
 use Rattle.po_term.specs.Form.{WellFormed}
 use Rattle.po_model.specs.declared.pair.Pair.{Pair}
-use Rattle.po_model.specs.Blocks.{PlainInstr}
-use Rattle.po_model.specs.Parts.{plainly, right_at}
+use Rattle.po_model.specs.Parts.{code_leaves, right_at}
 
 -- two instructions, and what is live after the second: of the registers that they set, and whether cc is
 pub record PlainPair : Type 0 where
@@ -26,7 +25,7 @@ is_live_after p r = list_any (reg_eq r) p.regs
 
 -- whether an instruction has a transfer `r := t`
 abbrev pub is_set_in : PlainInstr → Register → Bool
-is_set_in ms r = is_some (right_at plainly (InReg r) ms)
+is_set_in ms r = is_some (right_at code_leaves (InReg r) ms)
 
 pub record WellFormedPair (p : PlainPair) : Type 0 where
   pub first : WellFormed p.a

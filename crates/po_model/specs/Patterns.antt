@@ -1,7 +1,8 @@
 -- A pattern as plain moves: its constants, registers and symbols are those of an entry.
-use Rattle.std.specs.Prelude.{ℕ, ℤ, List, map, Option}
+use Rattle.std.specs.Prelude.{ℕ, List, map, Option}
 use Rattle.po_word.specs.declared.operator.Rel.{Rel}
 use Rattle.po_term.specs.Tree.{Tree, Const, Leaf, Read, Unary, Binary}
+use Rattle.po_model.specs.declared.machine.Bounds.{Bounds}
 use Rattle.po_model.specs.declared.machine.PatReg.{PatReg}
 use Rattle.po_model.specs.declared.machine.PatTerm.{PatTerm}
 use Rattle.po_model.specs.declared.machine.PatTerm.TheOpen.{PatTerm-F}
@@ -14,7 +15,7 @@ use Rattle.po_model.specs.declared.machine.PatTransfer.TheVariants as transfer
 -- a constant of a pattern: this one, or the operand k, in a range where it has one
 pub data PatConst : Type 0 where
   Exactly : ℕ → PatConst
-  Operand : ℕ → Option (ℤ × ℤ) → PatConst
+  Operand : ℕ → Option Bounds → PatConst
 
 -- another leaf of a pattern: a register, or the address of the symbol k
 pub data PatLeaf : Type 0 where

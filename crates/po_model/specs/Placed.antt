@@ -8,12 +8,13 @@ use Rattle.po_term.specs.Terms.{Place, InReg, AtSym, State}
 use Rattle.po_term.specs.MoveMap.{move_map}
 use Rattle.po_model.specs.declared.machine.Machine.{Machine}
 use Rattle.po_model.specs.declared.machine.Entry.{Entry}
-use Rattle.po_model.specs.Blocks.{PlainInstr, PlainBlock, instrs_at}
-use Rattle.po_model.specs.Effect.{Done, effect}
+use Rattle.po_model.specs.Blocks.{PlainBlock, instrs_at}
+use Rattle.po_model.specs.Effect.{Effected, effect}
 use Rattle.po_model.specs.Fit.{Found, fit}
 use Rattle.po_model.specs.Placement.{machine_of, registers}
 use Rattle.po_model.specs.UnitCodes.{flat}
 use Rattle.po_model.specs.Run.{Doing, Run, run_blocks}
+use Rattle.po_term.specs.Moves.{PlainInstr}
 
 -- the place of a register: a virtual register stands in a machine register, a fixed one is its own place
 abbrev pub place_of : (ℕ → ℕ) → Register → Register
@@ -28,7 +29,7 @@ placed_leaf at (AtSym s) = AtSym s
 
 -- the placed transfers of an instruction
 abbrev pub placed_instr : (ℕ → ℕ) → PlainInstr → PlainInstr
-placed_instr at x = map (move_map (λ c. c) (placed_leaf at) (place_of at) (λ s. s)) x
+placed_instr at x = map (move_map (λ c. c) (placed_leaf at) (place_of at) (λ s. s) (λ l. l)) x
 
 -- whether an entry leaves nothing in cc
 abbrev pub entry_clobbers : Option Entry → Bool
@@ -44,7 +45,7 @@ abbrev pub unless_clobbered : Bool → State → State
 unless_clobbered clobbers s = record { place = s.place; memory = s.memory; cc = if clobbers then None else s.cc }
 
 -- the effect of an instruction whose entry leaves nothing in cc, or keeps it
-abbrev pub effect_on : Bool → PlainInstr → State → Option Done
+abbrev pub effect_on : Bool → PlainInstr → State → Option Effected
 effect_on clobbers x s = option_map (λ d. record { state = unless_clobbered clobbers d.state; to = d.to }) (effect x s)
 
 -- a machine, and the machine register of each virtual register
@@ -63,6 +64,7 @@ module _ (m : Machine) (at : ℕ → ℕ) where
 abbrev pub placed_at : Machine → List PlainBlock → ℕ → ℕ
 placed_at m code v = machine_of (registers (length m.regs) (flat code)) v
 
--- n blocks of the placed code of a code, where live tells after which instructions cc is live
-abbrev pub run_placed : Machine → List PlainBlock → (ℕ → ℕ → Bool) → ℕ → Run → Option Run
-run_placed m code live n r = run_blocks code (placed_doings m (placed_at m code) code live) n r
+-- n blocks of the placed code of a code, where `at` says which machine register each virtual register has, and live tells after which
+-- instructions cc is live
+abbrev pub run_placed : Machine → (ℕ → ℕ) → List PlainBlock → (ℕ → ℕ → Bool) → ℕ → Run → Option Run
+run_placed m at code live n r = run_blocks code (placed_doings m at code live) n r

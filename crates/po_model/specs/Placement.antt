@@ -6,9 +6,9 @@ use Rattle.std.specs.Prelude.{ℕ, zero, suc, ◌+◌, ◌*◌, ◌≤◌, ◌<�
 use Rattle.std.specs.List.{list_any}
 use Rattle.po_term.specs.declared.term.Reg.TheVariants.{Virt}
 use Rattle.po_model.specs.declared.var.Var.TheVariants.{Reg}
-use Rattle.po_model.specs.Blocks.{PlainInstr}
 use Rattle.po_model.specs.LiveAfter.{reads}
 use Rattle.po_model.specs.UnitCodes.{written}
+use Rattle.po_term.specs.Moves.{PlainInstr}
 
 -- the last point at which these instructions, numbered from p on, read the virtual register v; `last` where they don't
 abbrev pub last_read : ℕ → ℕ → ℕ → List PlainInstr → ℕ
@@ -72,12 +72,13 @@ place_from n done (i ∷ is) = place_from n (record { interval = i; machine = lo
 abbrev pub placement : ℕ → List PlainInstr → List PlacedInterval
 placement n code = place_from n [] (intervals code)
 
-abbrev pub pair_of : PlacedInterval → ℕ × ℕ
-pair_of d = (d.interval.register, d.machine)
+-- the virtual register with its machine register
+abbrev pub assigned : PlacedInterval → ℕ × ℕ
+assigned d = (d.interval.register, d.machine)
 
 -- each virtual register with its machine register, in order of the intervals
 abbrev pub registers : ℕ → List PlainInstr → List (ℕ × ℕ)
-registers n code = reverse (map pair_of (placement n code))
+registers n code = reverse (map assigned (placement n code))
 
 -- the machine register of a virtual register: that of its first pair, and 0 where it has none
 abbrev pub machine_of : List (ℕ × ℕ) → ℕ → ℕ

@@ -1,22 +1,15 @@
 -- What a code does, block by block, and when two runs can't be told apart.
 use Rattle.std.specs.Prelude.{ℕ, zero, suc, ◌≡◌, ◌==◌, ◌<◌, ◌^◌, nat_lt, if◌then◌else◌, List, [], ◌∷◌, ◌++◌, map, length, All, Option, Some, None, ⊤}
 use Rattle.po_term.specs.declared.term.Reg.{Reg as Register}
-use Rattle.po_term.specs.declared.term.Reg.TheVariants.{Virt, Fp, Rv, Arg}
+use Rattle.po_term.specs.declared.term.Reg.TheVariants.{Fp, Rv}
 use Rattle.po_term.specs.declared.term.Sym.{Sym}
 use Rattle.po_term.specs.Terms.{InReg, AtSym, State, IsState}
 use Rattle.po_term.specs.Simplified.{same_register}
 use Rattle.po_model.specs.declared.var.Var.{Var}
 use Rattle.po_model.specs.declared.var.Var.TheVariants.{Reg, Cc}
 use Rattle.po_model.specs.Blocks.{PlainBlock, instrs_at, block_with}
-use Rattle.po_model.specs.Effect.{Control, Next, Jump, Called, Returned, Done, effect}
-use Rattle.po_model.specs.LiveAfter.{IsLive}
-
--- a register that has its name in every unit
-abbrev pub IsFixed : Register → Type 0
-IsFixed (Virt v) = ⊥
-IsFixed Fp = ⊤
-IsFixed Rv = ⊤
-IsFixed (Arg k) = ⊤
+use Rattle.po_model.specs.Effect.{Control, Next, Jump, Called, Returned, Effected, effect}
+use Rattle.po_model.specs.LiveAfter.{IsLiveAt}
 
 -- a word that is written to an address
 pub record Write : Type 0 where
@@ -57,14 +50,14 @@ starts s replies = record { state = s; at = Before 0; calls = []; replies = repl
 
 -- what an instruction does in a state, where it has an effect there
 abbrev pub Doing : Type 0
-Doing = State → Option Done
+Doing = State → Option Effected
 
 -- on from an instruction, unless it led elsewhere
-abbrev pub then_on : Doing → Done → Control → Option Done
+abbrev pub then_on : Doing → Effected → Control → Option Effected
 then_on go d Next = go d.state
 then_on go d c = Some d
 
-abbrev pub and_on : Doing → Option Done → Option Done
+abbrev pub and_on : Doing → Option Effected → Option Effected
 and_on go None = None
 and_on go (Some d) = then_on go d d.to
 
@@ -103,7 +96,7 @@ module _ (code : List PlainBlock) where
   leave b s (Called f ws) calls replies = answered b f ws s calls replies
   leave b s (Returned w) calls replies = Some (record { state = s; at = Behind w; calls = calls; replies = replies })
 
-  abbrev pub leave_done : ℕ → Option Done → List Call → List Reply → Option Run
+  abbrev pub leave_done : ℕ → Option Effected → List Call → List Reply → Option Run
   leave_done b None calls replies = None
   leave_done b (Some d) calls replies = leave b d.state d.to calls replies
 
@@ -133,21 +126,12 @@ module _ (code : List PlainBlock) where
 
   -- v is live where a run of the code stands: behind a return only fp is
   abbrev pub LiveWhere : Stop → Var → Type 0
-  LiveWhere (Before b) v = IsLive code v (record { block = b; rest = instrs_at code b })
+  LiveWhere (Before b) v = IsLiveAt code b v
   LiveWhere (Behind w) v = v ≡ Reg Fp
 
-  -- two states at the start of the code: they agree on memory, symbols and fixed registers, and on cc where it is live there
-  pub record StartAlike (s t : State) : Type 0 where
-    pub first : IsState s
-    pub second : IsState t
-    pub memory : (a : ℕ) → s.memory a ≡ t.memory a
-    pub symbols : (y : Sym) → s.place (AtSym y) ≡ t.place (AtSym y)
-    pub fixed : (r : Register) → IsFixed r → s.place (InReg r) ≡ t.place (InReg r)
-    pub compared : LiveWhere (Before 0) Cc → s.cc ≡ t.cc
-
-  -- a run of the code, and one of another code for the same unit, in which each register has the place that `at` says: they can't be
-  -- told apart by memory, by calls, by control, or by what is live
-  pub record Same (at : Register → Register) (x y : Run) : Type 0 where
+  -- a run of the code, and one of another code for the same unit, in which each register has its place: they can't be told apart by
+  -- memory, by calls, by control, or by what is live
+  pub record Same (place : Register → Register) (x y : Run) : Type 0 where
     -- the same next block, or the same word returned
     pub stop : x.at ≡ y.at
     -- the same calls, with the same memory at each, and the same replies to come
@@ -156,18 +140,18 @@ module _ (code : List PlainBlock) where
     pub memory : (a : ℕ) → x.state.memory a ≡ y.state.memory a
     pub symbols : (s : Sym) → x.state.place (AtSym s) ≡ y.state.place (AtSym s)
     -- each register that is live there holds the word that its place holds
-    pub places : (r : Register) → LiveWhere x.at (Reg r) → x.state.place (InReg r) ≡ y.state.place (InReg (at r))
+    pub places : (r : Register) → LiveWhere x.at (Reg r) → x.state.place (InReg r) ≡ y.state.place (InReg (place r))
     pub compared : LiveWhere x.at Cc → x.state.cc ≡ y.state.cc
 
   -- neither run has a result, or both have one, and they can't be told apart
   abbrev pub SameResult : (Register → Register) → Option Run → Option Run → Type 0
-  SameResult at None None = ⊤
-  SameResult at None (Some y) = ⊥
-  SameResult at (Some x) None = ⊥
-  SameResult at (Some x) (Some y) = Same at x y
+  SameResult place None None = ⊤
+  SameResult place None (Some y) = ⊥
+  SameResult place (Some x) None = ⊥
+  SameResult place (Some x) (Some y) = Same place x y
 
-  -- the second run has a result where the first has one, and they can't be told apart
-  abbrev pub ResultKept : (Register → Register) → Option Run → Option Run → Type 0
-  ResultKept at None y = ⊤
-  ResultKept at (Some x) None = ⊥
-  ResultKept at (Some x) (Some y) = Same at x y
+  -- two states of words from which runs begin that can't be told apart
+  pub record AlikeAtStart (place : Register → Register) (s t : State) : Type 0 where
+    pub first : IsState s
+    pub second : IsState t
+    pub same : Same place (starts s []) (starts t [])

@@ -6,23 +6,17 @@ use Rattle.std.specs.Prelude.{ℕ, suc, ◌≡◌, ◌↔◌, ◌<◌, Bool, tru
 use Rattle.std.specs.List.{list_all}
 use Rattle.std.specs.BTreeSet.{insert_key}
 use Rattle.po_term.specs.declared.term.Reg.{Reg as Register}
-use Rattle.po_term.specs.declared.term.Sym.{Sym}
 use Rattle.po_term.specs.declared.term.Label.{Label}
 use Rattle.po_term.specs.contracts.term.RegOrd.TheImpl.{cmp-value}
-use Rattle.po_term.specs.Terms.{Place}
-use Rattle.po_term.specs.Moves.{SetTo, CcTo, StoreTo, Ends}
-use Rattle.po_term.specs.Form.{PlainMove}
+use Rattle.po_term.specs.Moves.{SetTo, CcTo, StoreTo, Ends, PlainMove, PlainInstr}
+use mathlib.Core.Logic.{◌⊎◌}
 use Rattle.po_model.specs.declared.machine.Machine.{Machine}
 use Rattle.po_model.specs.declared.var.Var.{Var}
 use Rattle.po_model.specs.declared.var.Var.TheVariants.{Reg, Cc}
-use Rattle.po_model.specs.Blocks.{PlainInstr, PlainBlock, instrs_at}
+use Rattle.po_model.specs.Blocks.{PlainBlock, instrs_at}
 use Rattle.po_model.specs.LiveAfter.{LiveAfter}
-use Rattle.po_model.specs.Pairs.{PlainPair}
-use Rattle.po_model.specs.Combined.{Combination, Kept, Gone, AsOne, combination}
-
--- what becomes of a pair of a code
-abbrev pub Answer : Type 0
-Answer = Combination ℕ Place Register Sym
+use Rattle.po_model.specs.Pairs.{PlainPair, WellFormedPair}
+use Rattle.po_model.specs.Combined.{Answer, Kept, Gone, AsOne, combination}
 
 -- an instruction that is to come, and what is live after it
 pub record Ahead : Type 0 where
@@ -145,21 +139,30 @@ abbrev pub after_try : Answer → Scan → Scan
 after_try o (Within s) = Within (record { label = s.label; stand = settled o s.stand.done s.stand.rest s.stand.changed; passed = s.passed; coming = s.coming })
 after_try o (Finished code) = Finished code
 
+-- the scan is at the end of a block: nothing of it is to come
+abbrev pub IsAtEnd : Scan → Type 0
+IsAtEnd (Within s) = s.stand.rest ≡ []
+IsAtEnd (Finished code) = ⊥
+
 -- on from the end of a block
 abbrev pub AfterEnd : Scan → Scan → Type 0
-AfterEnd (Within s) t = (ready s.stand.done s.stand.rest ≡ None) × AfterBlock s.coming s t
+AfterEnd (Within s) t = (s.stand.rest ≡ []) × AfterBlock s.coming s t
 AfterEnd (Finished code) t = ⊥
+
+-- what becomes of each pair
+abbrev pub Answers : Type 0
+Answers = PlainPair → Answer
 
 -- a step of the scan: a pair was tried, or the end of a block was passed
 pub data ScanStep : Type 0 where
   Tried : PlainPair → ScanStep
   Ended : ScanStep
 
--- by these steps the scan goes from one place to another, each pair with the outcome of slow combination
-abbrev pub Goes : Machine → Scan → List ScanStep → Scan → Type 0
-Goes m s [] t = t ≡ s
-Goes m s (Tried p ∷ steps) t = (pair_ready s ≡ Some p) × Goes m (after_try (combination m p) s) steps t
-Goes m s (Ended ∷ steps) t = (u : Scan) × AfterEnd s u × Goes m u steps t
+-- by these steps the scan goes from one place to another, where this becomes of each pair
+abbrev pub Goes : Answers → Scan → List ScanStep → Scan → Type 0
+Goes answer s [] t = t ≡ s
+Goes answer s (Tried p ∷ steps) t = (pair_ready s ≡ Some p) × Goes answer (after_try (answer p) s) steps t
+Goes answer s (Ended ∷ steps) t = (u : Scan) × AfterEnd s u × Goes answer u steps t
 
 -- the pairs that were tried
 abbrev pub tried : List ScanStep → List PlainPair
@@ -174,9 +177,24 @@ ends (Tried p ∷ steps) = ends steps
 ends (Ended ∷ steps) = suc (ends steps)
 
 -- the scan of a code stands here after these steps
-abbrev pub StandsAfter : Machine → List PlainBlock → List ScanStep → Scan → Type 0
-StandsAfter m code steps s = (start : Scan) × IsPassStart code start × Goes m start steps s
+abbrev pub StandsAfter : Answers → List PlainBlock → List ScanStep → Scan → Type 0
+StandsAfter answer code steps s = (start : Scan) × IsPassStart code start × Goes answer start steps s
 
--- what all passes over a code make of it, and the pairs that they try
+-- the scan of a code stands here once so many pairs were tried and so many ends of blocks passed
+pub record StandsAt (answer : Answers) (code : List PlainBlock) (n k : ℕ) (s : Scan) : Type 0 where
+  pub steps : List ScanStep
+  pub stands : StandsAfter answer code steps s
+  pub tries : n ≡ length (tried steps)
+  pub block_ends : k ≡ ends steps
+
+-- what all passes over a code make of it by these answers, and the pairs that they try
+abbrev pub IsScanned : Answers → List PlainBlock → List PlainPair → List PlainBlock → Type 0
+IsScanned answer code pairs scanned = (steps : List ScanStep) × StandsAfter answer code steps (Finished scanned) × (pairs ≡ tried steps)
+
+-- by slow combination
 abbrev pub IsSlowed : Machine → List PlainBlock → List PlainPair → List PlainBlock → Type 0
-IsSlowed m code pairs slowed = (steps : List ScanStep) × StandsAfter m code steps (Finished slowed) × (pairs ≡ tried steps)
+IsSlowed m code pairs slowed = IsScanned (combination m) code pairs slowed
+
+-- answers by which a scan keeps what a code does: a well-formed pair stays, or this becomes of it that slow combination makes of it
+abbrev pub AreSafe : Machine → Answers → Type 0
+AreSafe m answer = (p : PlainPair) → WellFormedPair p → (answer p ≡ Kept) ⊎ (answer p ≡ combination m p)

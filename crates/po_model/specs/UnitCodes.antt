@@ -6,11 +6,11 @@ use Rattle.po_term.specs.declared.term.Sym.{Sym}
 use Rattle.po_term.specs.declared.term.Label.{Label}
 use Rattle.po_term.specs.Tree.{EachLeaf}
 use Rattle.po_term.specs.Terms.{Place, InReg, AtSym}
-use Rattle.po_term.specs.Moves.{Ending, GoTo, IfCc, IfTwo, CallOf, Return, SetTo, CcTo, StoreTo, Ends}
-use Rattle.po_term.specs.Form.{PlainMove, WellFormed}
+use Rattle.po_term.specs.Moves.{Ending, GoTo, IfCc, IfTwo, CallOf, Return, SetTo, CcTo, StoreTo, Ends, PlainMove, PlainInstr}
+use Rattle.po_term.specs.Form.{WellFormed}
 use Rattle.po_model.specs.declared.code.UnitCode.{UnitCode}
 use Rattle.po_model.specs.declared.var.Var.TheVariants.{Reg}
-use Rattle.po_model.specs.Blocks.{PlainInstr, PlainBlock, code_of, IsCode}
+use Rattle.po_model.specs.Blocks.{PlainBlock, code_of, IsCode}
 use Rattle.po_model.specs.LiveAfter.{reads}
 
 -- a unit's name, the names of its labels and symbols by their numbers, and its blocks
@@ -76,12 +76,19 @@ pub record IsNamedBlock (labels syms : ℕ) (b : PlainBlock) : Type 0 where
 abbrev pub IsNamed : PlainUnit → Type 0
 IsNamed u = All (IsNamedBlock (length u.labels) (length u.syms)) u.code
 
--- a code that the crates above work on
+-- a code whose instructions are well formed, and in which a control transfer stands only in the last instruction of a block
+pub record IsFormedCode (code : List PlainBlock) : Type 0 where
+  pub ends_last : IsCode code
+  pub formed : All (λ b. All WellFormed b.instrs) code
+
+-- a code that can be placed
+pub record IsPlaceable (code : List PlainBlock) : Type 0 where
+  pub form : IsFormedCode code
+  pub straight : IsStraight code
+  pub few_instrs : length (flat code) < 2 ^ 29
+  pub few_blocks : length code < 2 ^ 32
+
+-- a unit that can be placed, and in which each label and symbol has its name
 pub record IsUnitCode (u : PlainUnit) : Type 0 where
-  -- a control transfer stands only in the last instruction of a block
-  pub ends_last : IsCode u.code
-  pub formed : All (λ b. All WellFormed b.instrs) u.code
-  pub straight : IsStraight u.code
+  pub placeable : IsPlaceable u.code
   pub named : IsNamed u
-  pub few_instrs : length (flat u.code) < 2 ^ 29
-  pub few_blocks : length u.code < 2 ^ 32

@@ -44,6 +44,15 @@ pub enum PatReg {
     Fixed(Reg),
 }
 
+/// The range of a constant: its signed view is from `lo` to `hi`, both included; `lo` is at most `hi`.
+#[derive(Clone, Copy, Debug, PartialEq, Eq)]
+pub struct Bounds {
+    /// The least signed view, from -2147483648 on.
+    pub lo: i32,
+    /// The greatest signed view, up to 2147483647.
+    pub hi: i32,
+}
+
 /// A term of a pattern.
 #[derive(Debug, Drop)]
 pub enum PatTerm {
@@ -52,7 +61,7 @@ pub enum PatTerm {
     /// A number: this constant.
     Num(u32),
     /// `#k` or `#k[lo,hi]`, k from 0 to 9: any constant, or one whose signed view is from lo to hi.
-    Const(u8, Option<(i32, i32)>),
+    Const(u8, Option<Bounds>),
     /// `&k`, k from 0 to 9: the address of a symbol.
     Addr(u8),
     /// `M[t]`
