@@ -12,8 +12,8 @@ use Rattle.po_term.specs.Tree.{Tree, Const, Leaf, Read, Unary, Binary}
 use Rattle.po_term.specs.Terms.{Place, InReg, AtSym}
 use Rattle.po_term.specs.Kinds.{words, Met, give, and_then}
 use Rattle.po_term.specs.Simplified.{reg_eq, same_register}
-use Rattle.po_model.specs.Tests.{un_eq, bin_eq, bin_place}
-use Rattle.po_model.specs.Parts.{same_place, plainly}
+use Rattle.po_model.specs.Operators.{un_eq, bin_eq, bin_place}
+use Rattle.po_model.specs.Parts.{same_place, code_leaves}
 use Rattle.po_model.specs.Forward.{agree}
 
 pub one_register : (r q : Register) → reg_eq r q ≡ true → r ≡ q
@@ -67,7 +67,7 @@ if_got : (b : Bool) (m : Met ℕ Bool) → (if_met b m).got ≡ (if b then m.got
 if_got true m = refl
 if_got false m = refl
 
-pub agree_one : (a b : Tree ℕ Place) → (agree words plainly a b).got ≡ true → a ≡ b
+pub agree_one : (a b : Tree ℕ Place) → (agree words code_leaves a b).got ≡ true → a ≡ b
 agree_one (Const c) (Const d) e = ap Const (go (c == d) refl e)
   where
     go : (b : Bool) → (c == d) ≡ b → (if b then give {K = ℕ} true else give {K = ℕ} false).got ≡ true → c ≡ d
@@ -76,14 +76,14 @@ agree_one (Const c) (Const d) e = ap Const (go (c == d) refl e)
 agree_one (Leaf p) (Leaf q) e = ap Leaf (one_leaf p q e)
 agree_one (Read x) (Read y) e = ap Read (agree_one x y e)
 agree_one (Unary o x) (Unary p y) e =
-    let f : (if un_eq o p then (agree words plainly x y).got else false) ≡ true = sym (if_got (un_eq o p) (agree words plainly x y)) ∙ e in
-    let g = both_passed (un_eq o p) (agree words plainly x y).got f in
+    let f : (if un_eq o p then (agree words code_leaves x y).got else false) ≡ true = sym (if_got (un_eq o p) (agree words code_leaves x y)) ∙ e in
+    let g = both_passed (un_eq o p) (agree words code_leaves x y).got f in
     ap (λ q. Unary q x) (one_un o p g.0) ∙ ap (λ z. Unary p z) (agree_one x y g.1)
 agree_one (Binary o x y) (Binary p u v) e =
-    let f : (if bin_eq o p then (if_met (agree words plainly x u).got (agree words plainly y v)).got else false) ≡ true = sym (if_got (bin_eq o p) (and_then (agree words plainly x u) (λ yes. if_met yes (agree words plainly y v)))) ∙ e in
-    let g = both_passed (bin_eq o p) (if_met (agree words plainly x u).got (agree words plainly y v)).got f in
-    let h : (if (agree words plainly x u).got then (agree words plainly y v).got else false) ≡ true = sym (if_got (agree words plainly x u).got (agree words plainly y v)) ∙ g.1 in
-    let i = both_passed (agree words plainly x u).got (agree words plainly y v).got h in
+    let f : (if bin_eq o p then (if_met (agree words code_leaves x u).got (agree words code_leaves y v)).got else false) ≡ true = sym (if_got (bin_eq o p) (and_then (agree words code_leaves x u) (λ yes. if_met yes (agree words code_leaves y v)))) ∙ e in
+    let g = both_passed (bin_eq o p) (if_met (agree words code_leaves x u).got (agree words code_leaves y v)).got f in
+    let h : (if (agree words code_leaves x u).got then (agree words code_leaves y v).got else false) ≡ true = sym (if_got (agree words code_leaves x u).got (agree words code_leaves y v)) ∙ g.1 in
+    let i = both_passed (agree words code_leaves x u).got (agree words code_leaves y v).got h in
     ap (λ q. Binary q x y) (one_bin o p g.0) ∙ ap (λ z. Binary p z y) (agree_one x u i.0) ∙ ap (λ z. Binary p u z) (agree_one y v i.1)
 agree_one a b e = cc
 
@@ -103,7 +103,7 @@ un_self o = grind arith
 bin_self : (o : Bin) → bin_eq o o ≡ true
 bin_self o = grind arith
 
-pub agree_self : (a : Tree ℕ Place) → (agree words plainly a a).got ≡ true
+pub agree_self : (a : Tree ℕ Place) → (agree words code_leaves a a).got ≡ true
 agree_self (Const c) = grind arith
 agree_self (Leaf p) = leaf_self p
 agree_self (Read x) = agree_self x
@@ -111,10 +111,10 @@ agree_self (Unary o x) = rw (un_self o) (agree_self x)
 agree_self (Binary o x y) = rw (bin_self o, agree_self x) (agree_self y)
 
 -- a test of sameness has the answer of the table
-pub agrees : (b : Bool) (u v : Tree ℕ Place) → (IsTrue b ↔ (u ≡ v)) → b ≡ (agree words plainly u v).got
+pub agrees : (b : Bool) (u v : Tree ℕ Place) → (IsTrue b ↔ (u ≡ v)) → b ≡ (agree words code_leaves u v).got
 agrees true u v h = let e : u ≡ v = h.0 refl in rw (← e) (sym (agree_self u))
-agrees false u v h = go (agree words plainly u v).got refl
+agrees false u v h = go (agree words code_leaves u v).got refl
   where
-    go : (c : Bool) → (agree words plainly u v).got ≡ c → false ≡ c
+    go : (c : Bool) → (agree words code_leaves u v).got ≡ c → false ≡ c
     go true e = h.1 (agree_one u v e)
     go false e = refl

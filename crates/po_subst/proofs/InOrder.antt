@@ -3,13 +3,13 @@ use Rattle.std.proofs.Common.{◌≡◌, Bool, true, false, List, [], ◌∷◌,
 use Rattle.std.specs.Prelude.{if◌then◌else◌, filter}
 use Rattle.std.proofs.lemmas.List.Elements.{filter-append}
 use Rattle.po_term.specs.declared.term.Reg.{Reg as Register}
-use Rattle.po_model.specs.Parts.{plainly}
+use Rattle.po_model.specs.Parts.{code_leaves}
 use Rattle.po_model.specs.Joined.{is_set, is_cc, is_store, is_control, is_wanted, in_order, assembled}
 use Rattle.po_subst.specs.declared.order.ByKind.{ByKind}
-use Rattle.po_subst.specs.Found.{Step}
 use Rattle.po_subst.specs.Order.{kinds_of, with_rest, listing, kept_beside, is_moving}
+use Rattle.po_term.specs.Moves.{PlainMove}
 
-filter_swap : (p q : Step → Bool) (ms : List Step) → filter p (filter q ms) ≡ filter q (filter p ms)
+filter_swap : (p q : PlainMove → Bool) (ms : List PlainMove) → filter p (filter q ms) ≡ filter q (filter p ms)
 filter_swap p q [] = refl
 filter_swap p q (m ∷ ms) = go (p m) refl (q m) refl (filter_swap p q ms)
   where
@@ -19,13 +19,13 @@ filter_swap p q (m ∷ ms) = go (p m) refl (q m) refl (filter_swap p q ms)
     go false d true e ih = rw (d) ih
     go false d false e ih = ih
 
-pub listing_moving : (ms : List Step) → listing (kinds_of ms) ≡ filter is_moving (in_order ms)
+pub listing_moving : (ms : List PlainMove) → listing (kinds_of ms) ≡ filter is_moving (in_order ms)
 listing_moving ms =
     rw (filter_swap is_set is_moving ms, filter_swap is_cc is_moving ms, filter_swap is_store is_moving ms, filter_swap is_control is_moving ms)
     (sym (filter-append is_moving (filter is_set ms ++ filter is_cc ms ++ filter is_store ms) (filter is_control ms)
     ∙ ap (λ xs. xs ++ filter is_moving (filter is_control ms)) (filter-append is_moving (filter is_set ms ++ filter is_cc ms) (filter is_store ms)
     ∙ ap (λ xs. xs ++ filter is_moving (filter is_store ms)) (filter-append is_moving (filter is_set ms) (filter is_cc ms)))))
 
-pub assembled_of : (live : Register → Bool) (cc_live : Bool) (none kept all : ByKind) (a b forwarded i : List Step) → ((ms : List Step) → with_rest none ms ≡ kinds_of ms) → ((ms : List Step) → with_rest kept ms ≡ with_rest none (kept_beside live cc_live b a ++ ms)) → ((ms : List Step) → with_rest all ms ≡ with_rest kept (forwarded ++ ms)) → i ≡ listing (with_rest all []) → i ≡ assembled plainly live cc_live a (filter (is_wanted live cc_live) b) forwarded
+pub assembled_of : (live : Register → Bool) (cc_live : Bool) (none kept all : ByKind) (a b forwarded i : List PlainMove) → ((ms : List PlainMove) → with_rest none ms ≡ kinds_of ms) → ((ms : List PlainMove) → with_rest kept ms ≡ with_rest none (kept_beside live cc_live b a ++ ms)) → ((ms : List PlainMove) → with_rest all ms ≡ with_rest kept (forwarded ++ ms)) → i ≡ listing (with_rest all []) → i ≡ assembled code_leaves live cc_live a (filter (is_wanted live cc_live) b) forwarded
 assembled_of live cc_live none kept all a b forwarded i e f g h =
     h ∙ ap listing (g [] ∙ ap (with_rest kept) (append-nil forwarded) ∙ f forwarded ∙ e (kept_beside live cc_live b a ++ forwarded)) ∙ listing_moving (kept_beside live cc_live b a ++ forwarded)

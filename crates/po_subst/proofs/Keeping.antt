@@ -7,26 +7,27 @@ use Rattle.std.proofs.lemmas.Bool.{false≢true}
 use Rattle.po_term.specs.declared.term.Reg.{Reg as Register}
 use Rattle.po_term.specs.declared.term.Alias.{Alias}
 use Rattle.po_term.specs.declared.term.Alias.TheVariants.{Same, Apart, Maybe}
-use Rattle.po_term.specs.Terms.{Place, State, IsState, value}
+use Rattle.po_term.specs.Terms.{Place, State, IsState, value, PlainTerm}
 use Rattle.po_term.specs.Kinds.{words}
 use Rattle.po_term.specs.Actions.{MovesHaveWords}
 use Rattle.po_term.specs.Form.{WellFormed}
-use Rattle.po_model.specs.Parts.{plainly, right_at, cc_of, store_of, ending_of}
+use Rattle.po_model.specs.Parts.{code_leaves, right_at, cc_of, store_of, ending_of}
 use Rattle.po_model.specs.Forward.{alias_of}
 use Rattle.po_model.specs.Meets.{Meets}
-use Rattle.po_model.specs.Effect.{Word, new_word, new_memory, new_cc, after, goes}
-use Rattle.po_model.specs.Keeps.{live_at, matters, cc_matters, Keeps}
+use Rattle.po_model.specs.Effect.{new_word, new_memory, new_cc, after, goes, effect}
+use Rattle.po_model.specs.Keeps.{live_at, matters, cc_matters, SameEffect, effect_of_both}
 use Rattle.po_model.specs.Joined.{is_same, covers, is_set, is_cc, is_store, is_control, is_away, is_wanted, is_kept, in_order, assembled, forward_moves, joined}
-use Rattle.po_subst.specs.Found.{Step}
 use Rattle.po_subst.specs.Order.{is_moving}
 use Rattle.po_subst.specs.KeepsEffect.{OfList}
+use Rattle.po_subst.proofs.Keeps.{Keeps, none_ends, same_effect}
 use Rattle.po_subst.proofs.Meeting.{alias_right}
 use Rattle.po_subst.proofs.Lookups.{right_append, cc_append, store_append, ending_append}
 use Rattle.po_subst.proofs.Alike.{Two, TwoHasWords, LikeRight, LikeTwo, IsSingle, Alike, where_at, like_some, two_some, simple_alike, forward_alike, store_words}
 use Rattle.po_subst.proofs.Joint.{simplified, wanted, Joining, joined_where, single_of, words_of, words_append, words_filter, none_filter, single_filter, right_wanted_at, cc_wanted_of, store_wanted_of, ending_wanted_of, right_kept_at, cc_kept_of, store_kept_of, ending_kept_of, single_beside, moving_word, right_listed, cc_listed, store_listed, ending_listed}
+use Rattle.po_term.specs.Moves.{PlainMove, PlainInstr}
 
 -- the state after a list, and after one that is like it in the same state
-word_alike : (s : State) (o p : Option Word) (w : ℕ) → LikeRight s s o p → new_word s p w ≡ new_word s o w
+word_alike : (s : State) (o p : Option PlainTerm) (w : ℕ) → LikeRight s s o p → new_word s p w ≡ new_word s o w
 word_alike s None None w h = refl
 word_alike s (Some t) (Some u) w h = h.worth
 word_alike s None (Some u) w h = absurd h
@@ -47,15 +48,15 @@ cc_alike s (Some m) None h = absurd h
 state_same : (f g : Place → ℕ) (h i : ℕ → ℕ) (x y : Option (ℕ × ℕ)) → f ≡ g → h ≡ i → x ≡ y → ◌≡◌ {A = State} (record { place = f; memory = h; cc = x }) (record { place = g; memory = i; cc = y })
 state_same f g h i x y d e j = rw (d, e, j) refl
 
-after_alike : (s : State) (ms ns : List Step) → Alike s s ms ns → after s ns ≡ after s ms
+after_alike : (s : State) (ms ns : List PlainMove) → Alike s s ms ns → after s ns ≡ after s ms
 after_alike s ms ns h =
     state_same (after s ns).place (after s ms).place (after s ns).memory (after s ms).memory (after s ns).cc (after s ms).cc
-    (fun_ext (λ p. word_alike s (right_at plainly p ms) (right_at plainly p ns) (s.place p) (h.rights p)))
+    (fun_ext (λ p. word_alike s (right_at code_leaves p ms) (right_at code_leaves p ns) (s.place p) (h.rights p)))
     (fun_ext (λ c. memory_alike s (store_of ms) (store_of ns) c h.stored))
     (cc_alike s (cc_of ms) (cc_of ns) h.compared)
 
 -- a register: by what A and B set it to, and what B's set became
-place_same : (s r : State) (l : Bool) (oa ob oy : Option Word) (w : ℕ) → LikeRight s r (if l then ob else None) oy → (l || (not (is_some oa) && not (is_some ob))) ≡ true → new_word r ob (new_word s oa w) ≡ new_word s (option_or (if l && not (is_some (if l then ob else None)) then oa else None) oy) w
+place_same : (s r : State) (l : Bool) (oa ob oy : Option PlainTerm) (w : ℕ) → LikeRight s r (if l then ob else None) oy → (l || (not (is_some oa) && not (is_some ob))) ≡ true → new_word r ob (new_word s oa w) ≡ new_word s (option_or (if l && not (is_some (if l then ob else None)) then oa else None) oy) w
 place_same s r true None None None w h e = refl
 place_same s r true (Some t) None None w h e = refl
 place_same s r true oa (Some t) (Some u) w h e = sym h.worth
@@ -95,14 +96,14 @@ same_of Apart h = absurd (false≢true h)
 same_of Maybe h = absurd (false≢true h)
 
 module _ (s : State) (fits : IsState s) where
-  at_one : (m n : Two) → TwoHasWords (Some m) → TwoHasWords (Some n) → (covers words plainly (Some m) (Some n)).got ≡ true → value s m.0 ≡ value s n.0
+  at_one : (m n : Two) → TwoHasWords (Some m) → TwoHasWords (Some n) → (covers words code_leaves (Some m) (Some n)).got ≡ true → value s m.0 ≡ value s n.0
   at_one m n h i e =
-      let same : (alias_of words plainly m.0 n.0).got ≡ Same = same_of (alias_of words plainly m.0 n.0).got e in
+      let same : (alias_of words code_leaves m.0 n.0).got ≡ Same = same_of (alias_of words code_leaves m.0 n.0).got e in
       let meets : Meets Same s m.0 n.0 = subst (λ (x : Alias). Meets x s m.0 n.0) same (alias_right s fits m.0 n.0 h.0 i.0) in
       meets
 
   -- memory: by what A and B store, and what B's store became
-  store_same : (r : State) (oa ob oy : Option Two) → r.memory ≡ new_memory s oa → TwoHasWords oa → LikeTwo s r ob oy → (covers words plainly oa oy).got ≡ true → (c : ℕ) → new_memory r ob c ≡ new_memory s (option_or (if not (is_some ob) then oa else None) oy) c
+  store_same : (r : State) (oa ob oy : Option Two) → r.memory ≡ new_memory s oa → TwoHasWords oa → LikeTwo s r ob oy → (covers words code_leaves oa oy).got ≡ true → (c : ℕ) → new_memory r ob c ≡ new_memory s (option_or (if not (is_some ob) then oa else None) oy) c
   store_same r None None None e h l v c = ap (λ (f : ℕ → ℕ). f c) e
   store_same r (Some n) None None e h l v c = ap (λ (f : ℕ → ℕ). f c) e
   store_same r None (Some b) (Some m) e h l v c = stored_alike c (value r b.0) (value s m.0) (value r b.1) (value s m.1) r.memory s.memory l.left.worth l.right.worth e
@@ -112,39 +113,39 @@ module _ (s : State) (fits : IsState s) where
   store_same r oa None (Some m) e h l v c = absurd l
   store_same r oa (Some b) None e h l v c = absurd l
 
-  module _ (live : Register → Bool) (cc_live : Bool) (a b f : List Step) (like_a : Alike s s a (simplified live cc_live a b)) (like_b : Alike s (after s (simplified live cc_live a b)) (wanted live cc_live a b) f) (j : Joining live cc_live a b f) where
-    abbrev simple_a : List Step
+  module _ (live : Register → Bool) (cc_live : Bool) (a b f : List PlainMove) (like_a : Alike s s a (simplified live cc_live a b)) (like_b : Alike s (after s (simplified live cc_live a b)) (wanted live cc_live a b) f) (j : Joining live cc_live a b f) where
+    abbrev simple_a : List PlainMove
     simple_a = simplified live cc_live a b
 
-    abbrev wanted_b : List Step
+    abbrev wanted_b : List PlainMove
     wanted_b = wanted live cc_live a b
 
     abbrev before : State
     before = after s simple_a
 
-    abbrev kept : List Step
-    kept = filter (is_kept plainly live cc_live wanted_b) simple_a
+    abbrev kept : List PlainMove
+    kept = filter (is_kept code_leaves live cc_live wanted_b) simple_a
 
-    abbrev list : List Step
-    list = assembled plainly live cc_live simple_a wanted_b f
+    abbrev list : List PlainMove
+    list = assembled code_leaves live cc_live simple_a wanted_b f
 
     pub single_both : IsSingle (kept ++ f)
     single_both =
         single_beside live cc_live wanted_b f like_b.single
-        (λ p. like_some s before (right_at plainly p wanted_b) (right_at plainly p f) (like_b.rights p))
+        (λ p. like_some s before (right_at code_leaves p wanted_b) (right_at code_leaves p f) (like_b.rights p))
         (two_some s before (cc_of wanted_b) (cc_of f) like_b.compared)
         (two_some s before (store_of wanted_b) (store_of f) like_b.stored)
         simple_a like_a.single
 
-    matters_same : (p : Place) → (live_at live p || (not (is_some (right_at plainly p simple_a)) && not (is_some (right_at plainly p b)))) ≡ matters live a b p
-    matters_same p = rw (like_some s s (right_at plainly p a) (right_at plainly p simple_a) (like_a.rights p)) refl
+    matters_same : (p : Place) → (live_at live p || (not (is_some (right_at code_leaves p simple_a)) && not (is_some (right_at code_leaves p b)))) ≡ matters live a b p
+    matters_same p = rw (like_some s s (right_at code_leaves p a) (right_at code_leaves p simple_a) (like_a.rights p)) refl
 
-    place_kept : (p : Place) → matters live a b p ≡ true → new_word before (right_at plainly p b) (before.place p) ≡ new_word s (right_at plainly p list) (s.place p)
+    place_kept : (p : Place) → matters live a b p ≡ true → new_word before (right_at code_leaves p b) (before.place p) ≡ new_word s (right_at code_leaves p list) (s.place p)
     place_kept p e =
-        let l : LikeRight s before (if live_at live p then right_at plainly p b else None) (right_at plainly p f) = subst (λ (o : Option Word). LikeRight s before o (right_at plainly p f)) (right_wanted_at live cc_live p b) (like_b.rights p) in
-        place_same s before (live_at live p) (right_at plainly p simple_a) (right_at plainly p b) (right_at plainly p f) (s.place p) l (matters_same p ∙ e)
-        ∙ ap (λ o. new_word s (option_or (if live_at live p && not (is_some o) then right_at plainly p simple_a else None) (right_at plainly p f)) (s.place p)) (sym (right_wanted_at live cc_live p b))
-        ∙ ap (λ o. new_word s (option_or o (right_at plainly p f)) (s.place p)) (sym (right_kept_at live cc_live wanted_b p simple_a))
+        let l : LikeRight s before (if live_at live p then right_at code_leaves p b else None) (right_at code_leaves p f) = subst (λ (o : Option PlainTerm). LikeRight s before o (right_at code_leaves p f)) (right_wanted_at live cc_live p b) (like_b.rights p) in
+        place_same s before (live_at live p) (right_at code_leaves p simple_a) (right_at code_leaves p b) (right_at code_leaves p f) (s.place p) l (matters_same p ∙ e)
+        ∙ ap (λ o. new_word s (option_or (if live_at live p && not (is_some o) then right_at code_leaves p simple_a else None) (right_at code_leaves p f)) (s.place p)) (sym (right_wanted_at live cc_live p b))
+        ∙ ap (λ o. new_word s (option_or o (right_at code_leaves p f)) (s.place p)) (sym (right_kept_at live cc_live wanted_b p simple_a))
         ∙ ap (λ o. new_word s o (s.place p)) (sym (right_append p kept f))
         ∙ sym (moving_word s p (kept ++ f) single_both)
         ∙ ap (λ o. new_word s o (s.place p)) (sym (right_listed p (kept ++ f)))
@@ -179,7 +180,7 @@ module _ (s : State) (fits : IsState s) where
 
     words_kept : MovesHaveWords list
     words_kept =
-        let all = words_append kept f (words_filter (is_kept plainly live cc_live wanted_b) simple_a like_a.fits) like_b.fits in
+        let all = words_append kept f (words_filter (is_kept code_leaves live cc_live wanted_b) simple_a like_a.fits) like_b.fits in
         let ms = kept ++ f in
         words_filter is_moving (in_order ms)
         (words_append (filter is_set ms ++ filter is_cc ms ++ filter is_store ms) (filter is_control ms)
@@ -192,20 +193,20 @@ module _ (s : State) (fits : IsState s) where
         record {
           control = subst (λ (r : State). goes r (ending_of b) ≡ goes s (ending_of list)) e control_kept;
           memory = λ c. subst (λ (r : State). new_memory r (store_of b) c ≡ new_memory s (store_of list) c) e (memory_kept c);
-          places = λ p m. subst (λ (r : State). new_word r (right_at plainly p b) (r.place p) ≡ new_word s (right_at plainly p list) (s.place p)) e (place_kept p m);
+          places = λ p m. subst (λ (r : State). new_word r (right_at code_leaves p b) (r.place p) ≡ new_word s (right_at code_leaves p list) (s.place p)) e (place_kept p m);
           compared = λ m. subst (λ (r : State). new_cc r (cc_of b) ≡ new_cc s (cc_of list)) e (cc_kept m);
           words = words_kept;
           stays = stays_kept;
         }
 
-  module _ (live : Register → Bool) (cc_live : Bool) (a b f : List Step) (j : Joining live cc_live a b f) where
+  module _ (live : Register → Bool) (cc_live : Bool) (a b f : List PlainMove) (j : Joining live cc_live a b f) where
     -- A simplified is like A, and B forwarded is like B after A
     pub like_first : WellFormed a → Alike s s a (simplified live cc_live a b)
     like_first h = simple_alike s fits a (words_of a h.each) j.no_control (single_of a h.pairs)
 
     pub like_second : Alike s s a (simplified live cc_live a b) → WellFormed b → Alike s (after s (simplified live cc_live a b)) (wanted live cc_live a b) f
     like_second l h =
-        where_at (Alike s (after s (simplified live cc_live a b)) (wanted live cc_live a b)) (forward_moves words plainly (simplified live cc_live a b) (wanted live cc_live a b)).got f j.made
+        where_at (Alike s (after s (simplified live cc_live a b)) (wanted live cc_live a b)) (forward_moves words code_leaves (simplified live cc_live a b) (wanted live cc_live a b)).got f j.made
         (forward_alike s fits (simplified live cc_live a b) l.fits (wanted live cc_live a b)
         (words_filter (is_wanted live cc_live) b (words_of b h.each))
         (none_filter is_away (is_wanted live cc_live) b j.no_away)
@@ -218,7 +219,12 @@ zeros = record { place = λ p. 0; memory = λ c. 0; cc = None }
 pub zeros_fit : IsState zeros
 zeros_fit = record { places = λ p. lit< tt; cells = λ c. lit< tt }
 
-pub joined_keeps : (live : Register → Bool) (cc_live : Bool) (a b : List Step) → WellFormed a → WellFormed b → (s : State) → IsState s → OfList (joined words plainly live cc_live a b).got (λ j. Keeps live cc_live a b j s)
-joined_keeps live cc_live a b h i s fits =
-    joined_where live cc_live a b (λ j. Keeps live cc_live a b j s)
-    (λ f j. let l = like_first s fits live cc_live a b f j h in list_keeps s fits live cc_live a b f l (like_second s fits live cc_live a b f j l i) j)
+pub joined_keeps : (live : Register → Bool) (cc_live : Bool) (a b : PlainInstr) → WellFormed a → WellFormed b → (s : State) → IsState s
+    → OfList (joined words code_leaves live cc_live a b).got (λ j. SameEffect live cc_live a b (effect_of_both a b s) (effect j s))
+joined_keeps live cc_live a b h i s fits = joined_where live cc_live a b (λ j. SameEffect live cc_live a b (effect_of_both a b s) (effect j s)) kept
+  where
+    kept : (f : PlainInstr) → Joining live cc_live a b f → SameEffect live cc_live a b (effect_of_both a b s) (effect (assembled code_leaves live cc_live (simplified live cc_live a b) (wanted live cc_live a b) f) s)
+    kept f j =
+        let l = like_first s fits live cc_live a b f j h in
+        same_effect live cc_live a b (assembled code_leaves live cc_live (simplified live cc_live a b) (wanted live cc_live a b) f) s (none_ends a j.no_control)
+        (list_keeps s fits live cc_live a b f l (like_second s fits live cc_live a b f j l i) j)

@@ -1,16 +1,23 @@
+-- Addresses that may meet
 pub mod Agreeing
 pub mod Meeting
-pub mod Symbols
+-- The list that two instructions come to, transfer by transfer
 pub mod Choices
-pub mod Steps
 pub mod Kept
+pub mod Steps
 pub mod InOrder
+pub mod Lookups
+pub mod Joint
+-- What that list does, makes live and looks like
+pub mod Alike
+pub mod Keeps
+pub mod Keeping
+pub mod Reading
+pub mod Carried
+pub mod Symbols
+pub mod Forms
+-- One table read over two kinds of constants
 pub mod ForwardFollows
 pub mod JoinFollows
-pub mod Lookups
-pub mod Alike
-pub mod Joint
-pub mod Keeping
-pub mod Carried
-pub mod Reading
-pub mod Forms
+-- Maps that agree on what occurs
+pub mod Mapped

@@ -1,34 +1,38 @@
--- What is promised of the one list of transfers that two instructions A and B come to: it does what they do, it makes nothing live,
--- and it has the form of an instruction.
-use Rattle.std.specs.Prelude.{ℕ, ◌<◌, ◌≤◌, ◌^◌, ◌≡◌, ◌≢◌, Bool, true, not, ◌||◌, ◌&&◌, List, [], ◌∷◌, ◌++◌, All, AllPairs, Contains, ⊤}
+-- What is promised of the one list of transfers that two instructions A and B come to: it does what they do, it makes
+-- nothing live, and it has the form of an instruction.
+use Rattle.std.specs.Prelude.{ℕ, ◌<◌, ◌≤◌, ◌^◌, ◌≡◌, ◌≢◌, Bool, true, false, is_some, not, ◌||◌, ◌&&◌, List, [], ◌∷◌}
+use Rattle.std.specs.Prelude.{◌++◌, All, AllPairs, Contains, ⊤}
 use Rattle.po_term.specs.declared.term.Reg.{Reg as Register}
 use Rattle.po_term.specs.declared.term.Reg.TheVariants.{Fp}
 use Rattle.po_term.specs.declared.term.Sym.{Sym}
 use Rattle.po_term.specs.declared.term.Label.{Label}
 use Rattle.po_term.specs.Tree.{Tree, Const, Leaf, Read, Unary, Binary, EachConst, EachLeaf}
 use Rattle.po_term.specs.Terms.{Place, InReg, AtSym, State, IsState}
-use Rattle.po_term.specs.Moves.{Ending, GoTo, IfCc, IfTwo, CallOf, Return, SetTo, CcTo, StoreTo, Ends}
+use Rattle.po_term.specs.Moves.{Ending, GoTo, IfCc, IfTwo, CallOf, Return, SetTo, CcTo, StoreTo, Ends, PlainMove}
+use Rattle.po_term.specs.Moves.{PlainInstr}
 use Rattle.po_term.specs.Kinds.{words}
 use Rattle.po_term.specs.Form.{IsRegister, IsPlace, IsLabel, GoesBefore, WellFormed}
 use Rattle.po_model.specs.declared.var.Var.{Var}
 use Rattle.po_model.specs.declared.var.Var.TheVariants.{Reg, Cc}
-use Rattle.po_model.specs.Parts.{plainly}
+use Rattle.po_model.specs.Parts.{code_leaves, ending_of}
+use Rattle.po_model.specs.Effect.{effect}
 use Rattle.po_model.specs.LiveAfter.{reads, sets}
-use Rattle.po_model.specs.Keeps.{Keeps}
+use Rattle.po_model.specs.Keeps.{SameEffect, effect_of_both}
 use Rattle.po_model.specs.Joined.{Joint, NotJoined, NothingLeft, AsOne, joined}
-use Rattle.po_subst.specs.Found.{Step}
 
 -- P of the list that stands in the place of the two: of the empty one where nothing is left of them
-abbrev pub OfList : Joint ℕ Place Register Sym → (List Step → Type 0) → Type 0
+abbrev pub OfList : Joint ℕ Place Register Sym → (PlainInstr → Type 0) → Type 0
 OfList NotJoined P = ⊤
 OfList NothingLeft P = P []
 OfList (AsOne j) P = P j
 
 -- in every state of words the list does what A and then B do, as far as it is seen with these registers live
-abbrev pub KeepsEffect : Type 0
-KeepsEffect =
-    (live : Register → Bool) (cc_live : Bool) (a b : List Step) → WellFormed a → WellFormed b → (s : State) → IsState s
-    → OfList (joined words plainly live cc_live a b).got (λ j. Keeps live cc_live a b j s)
+abbrev pub JoiningKeepsEffect : Type 0
+JoiningKeepsEffect =
+    (live : Register → Bool) (cc_live : Bool) (a b : PlainInstr) → WellFormed a → WellFormed b
+    → (s : State) → IsState s
+    → OfList (joined words code_leaves live cc_live a b).got
+    (λ j. SameEffect live cc_live a b (effect_of_both a b s) (effect j s))
 
 -- whether v is live, where these registers are and cc is
 abbrev pub lives : (Register → Bool) → Bool → Var → Bool
@@ -36,14 +40,15 @@ lives live cc_live (Reg r) = live r
 lives live cc_live Cc = cc_live
 
 -- what is live before an instruction, by what is live after it
-abbrev pub live_before : List Step → (Var → Bool) → Var → Bool
+abbrev pub live_before : PlainInstr → (Var → Bool) → Var → Bool
 live_before x after v = reads x v || (not (sets x v) && after v)
 
 -- what is live before the list was live before A and B
-abbrev pub MakesNothingLive : Type 0
-MakesNothingLive =
-    (live : Register → Bool) (cc_live : Bool) (a b : List Step) → WellFormed a → WellFormed b → (v : Var)
-    → OfList (joined words plainly live cc_live a b).got (λ j. live_before j (lives live cc_live) v ≡ true → live_before a (live_before b (lives live cc_live)) v ≡ true)
+abbrev pub JoiningMakesNothingLive : Type 0
+JoiningMakesNothingLive =
+    (live : Register → Bool) (cc_live : Bool) (a b : PlainInstr) → WellFormed a → WellFormed b → (v : Var)
+    → OfList (joined words code_leaves live cc_live a b).got
+    (λ j. live_before j (lives live cc_live) v ≡ true → live_before a (live_before b (lives live cc_live)) v ≡ true)
 
 -- the labels of an instruction
 abbrev pub ending_labels : Ending ℕ Place Sym → List Label
@@ -53,7 +58,7 @@ ending_labels (IfTwo t u r l) = l ∷ []
 ending_labels (CallOf s n) = []
 ending_labels Return = []
 
-abbrev pub labels_in : List Step → List Label
+abbrev pub labels_in : PlainInstr → List Label
 labels_in [] = []
 labels_in (Ends e ∷ ms) = ending_labels e ++ labels_in ms
 labels_in (m ∷ ms) = labels_in ms
@@ -75,7 +80,7 @@ ending_syms (CallOf s n) = s ∷ []
 ending_syms Return = []
 
 -- the symbols of an instruction, those of its terms and one that is called
-abbrev pub syms_in : List Step → List Sym
+abbrev pub syms_in : PlainInstr → List Sym
 syms_in [] = []
 syms_in (SetTo r t ∷ ms) = term_syms t ++ syms_in ms
 syms_in (CcTo t u ∷ ms) = (term_syms t ++ term_syms u) ++ syms_in ms
@@ -95,14 +100,14 @@ EndingInRange (CallOf s n) = (s.0 < 2 ^ 32) × (n ≤ 4)
 EndingInRange Return = ⊤
 
 -- what a well-formed transfer is but for the sizes of its terms: it doesn't set fp, and what it names is in its range
-abbrev pub MoveInRange : Step → Type 0
+abbrev pub MoveInRange : PlainMove → Type 0
 MoveInRange (SetTo r t) = IsRegister r × (r ≢ Fp) × TermInRange t
 MoveInRange (CcTo t u) = TermInRange t × TermInRange u
 MoveInRange (StoreTo t u) = TermInRange t × TermInRange u
 MoveInRange (Ends e) = EndingInRange e
 
 -- the form of the list j in the place of A and B
-pub record HasForm (a b j : List Step) : Type 0 where
+pub record HasForm (a b j : PlainInstr) : Type 0 where
   -- sets, cc, store and control in this order, at most one of each but sets, and no register set twice
   pub pairs : AllPairs GoesBefore j
   -- each transfer is well formed but for the sizes of its terms
@@ -110,11 +115,13 @@ pub record HasForm (a b j : List Step) : Type 0 where
   -- its labels and its symbols are among those of A and B
   pub labels : All (Contains (labels_in a ++ labels_in b)) (labels_in j)
   pub symbols : All (Contains (syms_in a ++ syms_in b)) (syms_in j)
+  -- it has a transfer of control only where B has one
+  pub control : is_some (ending_of b) ≡ false → is_some (ending_of j) ≡ false
   -- what it sets, A or B sets
   pub targets : (v : Var) → sets j v ≡ true → (sets a v || sets b v) ≡ true
 
 -- the list has the form of an instruction, whose sizes only a machine limits
-abbrev pub KeepsForm : Type 0
-KeepsForm =
-    (live : Register → Bool) (cc_live : Bool) (a b : List Step) → WellFormed a → WellFormed b
-    → OfList (joined words plainly live cc_live a b).got (λ j. HasForm a b j)
+abbrev pub JoiningKeepsForm : Type 0
+JoiningKeepsForm =
+    (live : Register → Bool) (cc_live : Bool) (a b : PlainInstr) → WellFormed a → WellFormed b
+    → OfList (joined words code_leaves live cc_live a b).got (λ j. HasForm a b j)

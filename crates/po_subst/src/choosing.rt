@@ -4,7 +4,7 @@ ghost use Rattle.std.specs.List.{list_any};
 ghost use Rattle.po_term.specs.Terms.{InReg};
 ghost use Rattle.po_term.specs.Moves.{move_of, instr_of};
 ghost use Rattle.po_model.specs.LiveSet.{is_live};
-ghost use Rattle.po_model.specs.Parts.{plainly, right_at, cc_of, store_of};
+ghost use Rattle.po_model.specs.Parts.{code_leaves, right_at, cc_of, store_of};
 ghost use Rattle.po_model.specs.Joined.{is_control, is_away, is_wanted, is_kept, is_idle};
 
 use crate::parts::{compared, is_one, right_of, stored};
@@ -79,7 +79,7 @@ pub fn is_wanted(t: &Transfer, live: &Live) -> bool
 
 /// Whether a register is live that an instruction doesn't set.
 fn lives_unset(live: &Live, r: Reg, b: &Instr) -> bool
-    ensures { result ≡ (is_live live.now r && not (is_some (right_at plainly (InReg r) (instr_of b.now)))) }
+    ensures { result ≡ (is_live live.now r && not (is_some (right_at code_leaves (InReg r) (instr_of b.now)))) }
 {
     lives(live, r) && right_of(b, r).is_none()
 }
@@ -98,10 +98,11 @@ fn stores_nothing(b: &Instr) -> bool
     stored(b).is_none()
 }
 
-/// Whether a transfer of the first instruction stays beside the second, b: where it sets something that is live and that b doesn't
-/// set, and where it stores and b doesn't.
+/// Whether a transfer of the first instruction stays beside the second, b: where it sets something that is live and
+/// that b doesn't set, and where it stores and b doesn't.
 pub fn is_kept(t: &Transfer, b: &Instr, live: &Live) -> bool
-    ensures { result ≡ is_kept plainly (is_live live.now) live.now.cc (filter (is_wanted (is_live live.now) live.now.cc) (instr_of b.now)) (move_of t.now) }
+    ensures { result ≡ is_kept code_leaves (is_live live.now) live.now.cc
+        (filter (is_wanted (is_live live.now) live.now.cc) (instr_of b.now)) (move_of t.now) }
 {
     match t {
         Transfer::Set(r, _) => lives_unset(live, *r, b),
@@ -113,7 +114,7 @@ pub fn is_kept(t: &Transfer, b: &Instr, live: &Live) -> bool
 
 /// Whether a transfer is `r := r`.
 pub fn is_idle(t: &Transfer) -> bool
-    ensures { result ≡ is_idle plainly (move_of t.now) }
+    ensures { result ≡ is_idle code_leaves (move_of t.now) }
 {
     match t {
         Transfer::Set(r, Term::Reg(q)) => is_one(*q, *r),

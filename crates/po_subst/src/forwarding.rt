@@ -1,13 +1,13 @@
 //! A term that is read after an instruction, as a term that is read before it.
 //!
-//! A register that the instruction sets gives its right side, an operator its constructor on the forwarded operands, and a read what
-//! the instruction stores there, where that is known.
+//! A register that the instruction sets gives its right side, an operator its constructor on the forwarded operands,
+//! and a read what the instruction stores there, where that is known.
 ghost use Rattle.std.specs.Prelude.{◌≡◌, IfOk};
 ghost use Rattle.po_term.specs.Tree.{Read};
 ghost use Rattle.po_term.specs.Terms.{tree_of, InReg};
 ghost use Rattle.po_term.specs.Moves.{instr_of};
 ghost use Rattle.po_term.specs.Kinds.{words};
-ghost use Rattle.po_model.specs.Parts.{plainly, right_at, store_of};
+ghost use Rattle.po_model.specs.Parts.{code_leaves, right_at, store_of};
 ghost use Rattle.po_model.specs.Forward.{right_or, read_after, forward};
 ghost use Rattle.po_subst.specs.Seen.{tree_made};
 
@@ -30,7 +30,7 @@ fn read(alloc: Global, q: Term) -> Result<Term, OutOfMemory>
 
 /// What a register becomes.
 fn forward_register(alloc: Global, a: &Instr, r: Reg) -> Result<Term, OutOfMemory>
-    ensures { IfOk result (λ u. tree_of u ≡ right_or words plainly (right_at plainly (InReg r) (instr_of a.now)) (InReg r)) }
+    ensures { IfOk result (λ u. tree_of u ≡ right_or (right_at code_leaves (InReg r) (instr_of a.now)) (InReg r)) }
 {
     match right_of(a, r) {
         Some(u) => copy_term(alloc, u),
@@ -40,7 +40,8 @@ fn forward_register(alloc: Global, a: &Instr, r: Reg) -> Result<Term, OutOfMemor
 
 /// The word at q after an instruction.
 fn forward_read(alloc: Global, a: &Instr, q: Term) -> Result<Option<Term>, OutOfMemory>
-    ensures { IfOk result (λ u. tree_made u ≡ (read_after words plainly (store_of (instr_of a.now)) (tree_of q)).got) }
+    ensures { IfOk result (λ u. tree_made u
+        ≡ (read_after words code_leaves (store_of (instr_of a.now)) (tree_of q)).got) }
 {
     match stored(a) {
         None => Ok(Some(read(alloc, q)?)),
@@ -52,13 +53,14 @@ fn forward_read(alloc: Global, a: &Instr, q: Term) -> Result<Option<Term>, OutOf
     }
 }
 
-/// What the term t, read after the instruction a, is before it (docs/OPTIMISER.md, "Forwarding"). `None` exactly where some read of t
-/// may or may not meet a's store.
+/// What the term t, read after the instruction a, is before it (docs/OPTIMISER.md, "Forwarding"). `None` exactly where
+/// some read of t may or may not meet a's store.
 ///
-/// It is for an a that is simplified, and then the term is. It recurses as deep as t is. It fails only where memory is refused.
+/// It is for an a that is simplified, and then the term is. It recurses as deep as t is. It fails only where memory is
+/// refused.
 #[tactic(auto, using(crate::proofs::Symbols::symbol_stays))]
 pub fn forward(alloc: Global, a: &Instr, t: &Term) -> Result<Option<Term>, OutOfMemory>
-    ensures { IfOk result (λ u. tree_made u ≡ (forward words plainly (instr_of a.now) (tree_of t.now)).got) }
+    ensures { IfOk result (λ u. tree_made u ≡ (forward words code_leaves (instr_of a.now) (tree_of t.now)).got) }
 {
     match t {
         Term::Num(c) => Ok(Some(Term::Num(*c))),

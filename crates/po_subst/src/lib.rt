@@ -1,9 +1,13 @@
-//! One instruction read through another: whether two addresses meet, what a term becomes that is read after an instruction, and the
-//! one list of transfers that two instructions come to (docs/OPTIMISER.md, "Aliasing", "Forwarding", "Combination").
+//! One instruction read through another: whether two addresses meet, what a term becomes that is read after an
+//! instruction, and the one list of transfers that two instructions come to (docs/OPTIMISER.md, "Aliasing",
+//! "Forwarding", "Combination").
 //!
-//! `addresses` compares addresses, `parts` finds what an instruction sets, compares and stores, `forwarding` reads a term and
-//! `transfers` a whole transfer through an instruction, `choosing` says which transfers count by what is live, `order` puts them
-//! in order, and `joining` makes one list of a pair. Each call gives what its definition in po_model says, seen as plain moves.
+//! `addresses` compares addresses, `parts` finds what an instruction sets, compares and stores, `forwarding` reads a
+//! term and `transfers` a whole transfer through an instruction, `choosing` says which transfers count by what is
+//! live, `order` puts them in order, and `joining` makes one list of a pair. Each call gives what its definition in
+//! po_model says, seen as plain moves.
+//!
+//! Its tests stand in `po_code_rows`.
 #![tactic(auto)]
 
 mod addresses;
@@ -13,8 +17,6 @@ mod joining;
 mod laws;
 mod order;
 mod parts;
-#[cfg(test)]
-mod tests;
 mod transfers;
 
 pub use addresses::alias;

@@ -1,19 +1,18 @@
 //! Transfers put into the order sets, cc, store, control.
 //!
-//! `ByKind` holds the transfers of each kind in the order in which they came, without those that set a register to itself.
+//! `ByKind` holds the transfers of each kind in the order in which they came, without those that set a register to
+//! itself.
 ghost use Rattle.std.specs.Prelude.{◌≡◌, ◌++◌, ◌∷◌, [], ℕ, List, OnOk, IfOk, false, filter};
-ghost use Rattle.po_term.specs.Moves.{move_of, moves_of, instr_of};
+ghost use Rattle.po_term.specs.Moves.{move_of, moves_of, instr_of, PlainMove};
 ghost use Rattle.po_model.specs.LiveSet.{is_live};
-ghost use Rattle.po_model.specs.Parts.{plainly};
+ghost use Rattle.po_model.specs.Parts.{code_leaves};
 ghost use Rattle.po_model.specs.Joined.{is_wanted, is_kept, is_idle, in_order, assembled};
-ghost use Rattle.po_subst.specs.Found.{Step};
 ghost use Rattle.po_subst.specs.Order.{Kinds, kinds_of, with_rest, listing, kept_beside};
 
 use crate::choosing::{is_idle, is_kept};
-use crate::transfers::push;
 use po_model::{Live, Pair};
 use po_term::{Instr, Transfer};
-use po_word::OutOfMemory;
+use po_word::{OutOfMemory, push};
 use std::alloc::Global;
 
 #[derive(Drop)]
@@ -26,7 +25,7 @@ pub struct ByKind {
 
 /// Without a transfer.
 pub fn none_yet(alloc: Global) -> ByKind
-    ensures { (ms : List Step) → with_rest result ms ≡ kinds_of ms }
+    ensures { (ms : List PlainMove) → with_rest result ms ≡ kinds_of ms }
 {
     ByKind {
         sets: Vec::new(alloc),
@@ -38,8 +37,8 @@ pub fn none_yet(alloc: Global) -> ByKind
 
 /// Adds a transfer behind those of its kind.
 fn add_moving(by_kind: &mut ByKind, t: Transfer) -> Result<(), OutOfMemory>
-    requires { is_idle plainly (move_of t) ≡ false }
-    ensures { OnOk result ((ms : List Step) → with_rest by_kind.new ms ≡ with_rest by_kind.old (move_of t ∷ ms)) }
+    requires { is_idle code_leaves (move_of t) ≡ false }
+    ensures { OnOk result ((ms : List PlainMove) → with_rest by_kind.new ms ≡ with_rest by_kind.old (move_of t ∷ ms)) }
 {
     match t {
         Transfer::Set(r, u) => push(&mut by_kind.sets, Transfer::Set(r, u)),
@@ -51,7 +50,7 @@ fn add_moving(by_kind: &mut ByKind, t: Transfer) -> Result<(), OutOfMemory>
 
 /// Adds a transfer, unless it sets a register to itself.
 fn add(by_kind: &mut ByKind, t: Transfer) -> Result<(), OutOfMemory>
-    ensures { OnOk result ((ms : List Step) → with_rest by_kind.new ms ≡ with_rest by_kind.old (move_of t ∷ ms)) }
+    ensures { OnOk result ((ms : List PlainMove) → with_rest by_kind.new ms ≡ with_rest by_kind.old (move_of t ∷ ms)) }
 {
     if is_idle(&t) {
         Ok(())
@@ -67,7 +66,8 @@ fn add_where_kept(
     b: &Instr,
     live: &Live,
 ) -> Result<(), OutOfMemory>
-    ensures { OnOk result ((ms : List Step) → with_rest by_kind.new ms ≡ with_rest by_kind.old (kept_beside (is_live live.now) live.now.cc (instr_of b.now) (move_of t ∷ []) ++ ms)) }
+    ensures { OnOk result ((ms : List PlainMove) → with_rest by_kind.new ms
+        ≡ with_rest by_kind.old (kept_beside (is_live live.now) live.now.cc (instr_of b.now) (move_of t ∷ []) ++ ms)) }
 {
     if is_kept(&t, b, live) {
         add(by_kind, t)
@@ -78,7 +78,8 @@ fn add_where_kept(
 
 /// Adds what of the first instruction stays beside the second.
 fn add_kept(by_kind: &mut ByKind, a: Instr, b: &Instr, live: &Live) -> Result<(), OutOfMemory>
-    ensures { OnOk result ((ms : List Step) → with_rest by_kind.new ms ≡ with_rest by_kind.old (kept_beside (is_live live.now) live.now.cc (instr_of b.now) (instr_of a) ++ ms)) }
+    ensures { OnOk result ((ms : List PlainMove) → with_rest by_kind.new ms
+        ≡ with_rest by_kind.old (kept_beside (is_live live.now) live.now.cc (instr_of b.now) (instr_of a) ++ ms)) }
 {
     for t in a.xs {
         add_where_kept(by_kind, t, b, live)?;
@@ -88,7 +89,8 @@ fn add_kept(by_kind: &mut ByKind, a: Instr, b: &Instr, live: &Live) -> Result<()
 
 /// Adds the transfers of an instruction.
 fn add_all(by_kind: &mut ByKind, b: Instr) -> Result<(), OutOfMemory>
-    ensures { OnOk result ((ms : List Step) → with_rest by_kind.new ms ≡ with_rest by_kind.old (instr_of b ++ ms)) }
+    ensures { OnOk result ((ms : List PlainMove) → with_rest by_kind.new ms
+        ≡ with_rest by_kind.old (instr_of b ++ ms)) }
 {
     for t in b.xs {
         add(by_kind, t)?;
@@ -119,7 +121,9 @@ fn in_one(by_kind: ByKind) -> Result<Instr, OutOfMemory>
 
 /// What stays of the simplified instruction a and of p's second: b is what of the second is wanted, read after a.
 pub fn assemble(alloc: Global, a: Instr, b: Instr, p: &Pair) -> Result<Instr, OutOfMemory>
-    ensures { IfOk result (λ i. instr_of i ≡ assembled plainly (is_live p.now.live) p.now.live.cc (instr_of a) (filter (is_wanted (is_live p.now.live) p.now.live.cc) (instr_of p.now.b)) (instr_of b)) }
+    ensures { IfOk result (λ i. instr_of i
+        ≡ assembled code_leaves (is_live p.now.live) p.now.live.cc (instr_of a)
+        (filter (is_wanted (is_live p.now.live) p.now.live.cc) (instr_of p.now.b)) (instr_of b)) }
 {
     let mut by_kind = none_yet(alloc);
     add_kept(&mut by_kind, a, &p.b, &p.live)?;

@@ -3,7 +3,7 @@ ghost use Rattle.std.specs.Prelude.{◌≡◌, ◌∷◌, []};
 ghost use Rattle.po_term.specs.Terms.{tree_of, InReg};
 ghost use Rattle.po_term.specs.Moves.{move_of, instr_of};
 ghost use Rattle.po_term.specs.Simplified.{reg_eq};
-ghost use Rattle.po_model.specs.Parts.{plainly, right_at, cc_of, store_of};
+ghost use Rattle.po_model.specs.Parts.{code_leaves, right_at, cc_of, store_of};
 ghost use Rattle.po_subst.specs.Seen.{tree_found, two_found};
 
 use po_term::{Instr, Reg, Term, Transfer};
@@ -17,7 +17,7 @@ pub fn is_one(r: Reg, q: Reg) -> bool
 
 /// What a transfer sets a register to.
 fn right_in(t: &Transfer, r: Reg) -> Option<&Term>
-    ensures { tree_found result ≡ right_at plainly (InReg r) (move_of t.now ∷ []) }
+    ensures { tree_found result ≡ right_at code_leaves (InReg r) (move_of t.now ∷ []) }
 {
     match t {
         Transfer::Set(q, u) => { if is_one(r, *q) { Some(u) } else { None } }
@@ -27,7 +27,7 @@ fn right_in(t: &Transfer, r: Reg) -> Option<&Term>
 
 /// What an instruction sets a register to.
 pub fn right_of(a: &Instr, r: Reg) -> Option<&Term>
-    ensures { tree_found result ≡ right_at plainly (InReg r) (instr_of a.now) }
+    ensures { tree_found result ≡ right_at code_leaves (InReg r) (instr_of a.now) }
 {
     for t in &a.xs {
         if let Some(u) = right_in(t, r) {

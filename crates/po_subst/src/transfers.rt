@@ -5,7 +5,7 @@ ghost use Rattle.po_term.specs.Terms.{tree_of};
 ghost use Rattle.po_term.specs.Moves.{branch_of, SetTo, CcTo, StoreTo, Ends, IfTwo, move_of, moves_of, instr_of};
 ghost use Rattle.po_term.specs.Kinds.{words};
 ghost use Rattle.po_model.specs.LiveSet.{is_live};
-ghost use Rattle.po_model.specs.Parts.{plainly, cc_of};
+ghost use Rattle.po_model.specs.Parts.{code_leaves, cc_of};
 ghost use Rattle.po_model.specs.Joined.{is_wanted, forward_branch, forward_move, forward_moves};
 ghost use Rattle.po_subst.specs.Seen.{tree_made};
 ghost use Rattle.po_subst.specs.Found.{known_moves, behind, instr_made, move_made, wanted_move};
@@ -16,18 +16,8 @@ use crate::parts::compared;
 use po_model::Live;
 use po_simplify::decide;
 use po_term::{Cond, Instr, Label, Reg, Term, Transfer, copy_term};
-use po_word::{OutOfMemory, Rel};
+use po_word::{OutOfMemory, Rel, push};
 use std::alloc::Global;
-
-/// Appends a transfer.
-pub fn push(xs: &mut Vec<Transfer>, t: Transfer) -> Result<(), OutOfMemory>
-    ensures { OnOk result (xs.new.items ≡ xs.old.items ++ t ∷ []) }
-{
-    match xs.push(t) {
-        Ok(()) => Ok(()),
-        Err(_) => Err(OutOfMemory),
-    }
-}
 
 /// Appends a transfer, where there is one.
 fn push_some(xs: &mut Vec<Transfer>, t: Option<Transfer>) -> Result<(), OutOfMemory>
@@ -41,7 +31,8 @@ fn push_some(xs: &mut Vec<Transfer>, t: Option<Transfer>) -> Result<(), OutOfMem
 
 /// A set with its term forwarded.
 fn forward_set(alloc: Global, a: &Instr, r: Reg, u: &Term) -> Result<Option<Transfer>, OutOfMemory>
-    ensures { IfOk result (λ made. move_made made ≡ (forward_move words plainly (instr_of a.now) (SetTo r (tree_of u.now))).got) }
+    ensures { IfOk result (λ made. move_made made
+        ≡ (forward_move words code_leaves (instr_of a.now) (SetTo r (tree_of u.now))).got) }
 {
     match forward(alloc, a, u)? {
         Some(u) => Ok(Some(Transfer::Set(r, u))),
@@ -56,7 +47,8 @@ fn forward_compared(
     u: &Term,
     v: &Term,
 ) -> Result<Option<Transfer>, OutOfMemory>
-    ensures { IfOk result (λ made. move_made made ≡ (forward_move words plainly (instr_of a.now) (CcTo (tree_of u.now) (tree_of v.now))).got) }
+    ensures { IfOk result (λ made. move_made made
+        ≡ (forward_move words code_leaves (instr_of a.now) (CcTo (tree_of u.now) (tree_of v.now))).got) }
 {
     match forward(alloc, a, u)? {
         Some(u) => match forward(alloc, a, v)? {
@@ -74,7 +66,8 @@ fn forward_stored(
     u: &Term,
     v: &Term,
 ) -> Result<Option<Transfer>, OutOfMemory>
-    ensures { IfOk result (λ made. move_made made ≡ (forward_move words plainly (instr_of a.now) (StoreTo (tree_of u.now) (tree_of v.now))).got) }
+    ensures { IfOk result (λ made. move_made made
+        ≡ (forward_move words code_leaves (instr_of a.now) (StoreTo (tree_of u.now) (tree_of v.now))).got) }
 {
     match forward(alloc, a, u)? {
         Some(u) => match forward(alloc, a, v)? {
@@ -92,7 +85,8 @@ fn forward_cc(
     rel: Rel,
     to: Label,
 ) -> Result<Option<Transfer>, OutOfMemory>
-    ensures { IfOk result (λ kept. moves_of (option_to_list kept) ≡ (forward_branch words plainly (cc_of (instr_of a.now)) rel to).got) }
+    ensures { IfOk result (λ kept. moves_of (option_to_list kept)
+        ≡ (forward_branch words code_leaves (cc_of (instr_of a.now)) rel to).got) }
 {
     match compared(a) {
         Some((u, v)) => {
@@ -114,7 +108,9 @@ fn push_branch_on_two(
     rel: Rel,
     to: Label,
 ) -> Result<bool, OutOfMemory>
-    ensures { IfOk result (λ known. known_moves known xs.new.items ≡ behind xs.old.items (forward_move words plainly (instr_of a.now) (Ends (IfTwo (tree_of u.now) (tree_of v.now) rel to))).got) }
+    ensures { IfOk result (λ known. known_moves known xs.new.items
+        ≡ behind xs.old.items
+        (forward_move words code_leaves (instr_of a.now) (Ends (IfTwo (tree_of u.now) (tree_of v.now) rel to))).got) }
 {
     match forward(alloc, a, u)? {
         Some(u) => match forward(alloc, a, v)? {
@@ -137,7 +133,9 @@ fn push_branch(
     rel: Rel,
     to: Label,
 ) -> Result<bool, OutOfMemory>
-    ensures { IfOk result (λ known. known_moves known xs.new.items ≡ behind xs.old.items (forward_move words plainly (instr_of a.now) (Ends (branch_of cond.now rel to))).got) }
+    ensures { IfOk result (λ known. known_moves known xs.new.items
+        ≡ behind xs.old.items
+        (forward_move words code_leaves (instr_of a.now) (Ends (branch_of cond.now rel to))).got) }
 {
     match cond {
         Cond::Cc => {
@@ -169,7 +167,8 @@ fn push_forwarded(
     a: &Instr,
     t: &Transfer,
 ) -> Result<bool, OutOfMemory>
-    ensures { IfOk result (λ known. known_moves known xs.new.items ≡ behind xs.old.items (forward_move words plainly (instr_of a.now) (move_of t.now)).got) }
+    ensures { IfOk result (λ known. known_moves known xs.new.items
+        ≡ behind xs.old.items (forward_move words code_leaves (instr_of a.now) (move_of t.now)).got) }
 {
     match t {
         Transfer::Set(r, u) => {
@@ -191,8 +190,8 @@ fn push_forwarded(
     }
 }
 
-/// Appends what a transfer becomes that is read after the instruction a, and nothing where it isn't wanted; false where what it
-/// becomes isn't known.
+/// Appends what a transfer becomes that is read after the instruction a, and nothing where it isn't wanted; false
+/// where what it becomes isn't known.
 fn push_wanted(
     alloc: Global,
     xs: &mut Vec<Transfer>,
@@ -200,7 +199,8 @@ fn push_wanted(
     t: &Transfer,
     live: &Live,
 ) -> Result<bool, OutOfMemory>
-    ensures { IfOk result (λ known. known_moves known xs.new.items ≡ behind xs.old.items (wanted_move (is_live live.now) live.now.cc (instr_of a.now) (move_of t.now))) }
+    ensures { IfOk result (λ known. known_moves known xs.new.items
+        ≡ behind xs.old.items (wanted_move (is_live live.now) live.now.cc (instr_of a.now) (move_of t.now))) }
 {
     if is_wanted(t, live) {
         push_forwarded(alloc, xs, a, t)
@@ -216,7 +216,9 @@ pub fn forward_wanted(
     b: &Instr,
     live: &Live,
 ) -> Result<Option<Instr>, OutOfMemory>
-    ensures { IfOk result (λ made. instr_made made ≡ (forward_moves words plainly (instr_of a.now) (filter (is_wanted (is_live live.now) live.now.cc) (instr_of b.now))).got) }
+    ensures { IfOk result (λ made. instr_made made
+        ≡ (forward_moves words code_leaves (instr_of a.now)
+        (filter (is_wanted (is_live live.now) live.now.cc) (instr_of b.now))).got) }
 {
     let mut xs = Vec::new(alloc);
     for t in &b.xs {

@@ -1,12 +1,11 @@
 use Rattle.std.proofs.Common.{◌≡◌, List, ◌++◌}
 use Rattle.std.specs.Vec.Iter.{into_iter_items}
-use Rattle.po_term.specs.Moves.{moves_of}
-use Rattle.po_subst.specs.Found.{Step}
+use Rattle.po_term.specs.Moves.{moves_of, PlainMove}
 use Rattle.po_subst.specs.Order.{with_rest}
 use Rattle.po_subst.proofs.order.add_all.Given as goal
 
 -- what is there, with what is still to come, is what there was with all
 abbrev pub invariant-loop-t : goal.invariant-loop-t
 invariant-loop-t l =
-    (ms : List Step) → with_rest l.by_kind (moves_of (into_iter_items l.t-iterator) ++ ms)
+    (ms : List PlainMove) → with_rest l.by_kind (moves_of (into_iter_items l.t-iterator) ++ ms)
     ≡ with_rest l.initial.by_kind (moves_of (into_iter_items l.initial.t-iterator) ++ ms)
