@@ -7,16 +7,16 @@ use Rattle.std.proofs.lemmas.List.Elements.{recursion_from_All}
 use Rattle.std.proofs.lemmas.List.Folds.{list_any-append}
 use mathlib.Core.Logic.{inl, inr}
 use Rattle.po_term.specs.declared.term.Label.{Label}
-use Rattle.po_term.specs.Form.{PlainMove}
 use Rattle.po_ir.specs.declared.unit.Op.{Op}
 use Rattle.po_ir.specs.declared.unit.Op.TheVariants as op
 use Rattle.po_ir.specs.Ops.{labels_of}
 use Rattle.po_model.specs.declared.var.Var.TheVariants.{Cc}
-use Rattle.po_model.specs.Blocks.{PlainInstr, PlainBlock, instrs_at}
+use Rattle.po_model.specs.Blocks.{PlainBlock, instrs_at}
 use Rattle.po_model.specs.LiveAfter.{Point, ReadOn, IsLive, reads, sets}
 use Rattle.po_model.specs.Naive.{Text, Piece, Mark, Does, sym_in, each_once, pieces, cut, naive}
 use Rattle.po_expand.specs.CcAtStarts.{CcDeadAtStarts}
 use Rattle.po_expand.proofs.Cutting.{ends_block, cut_all}
+use Rattle.po_term.specs.Moves.{PlainMove, PlainInstr}
 
 -- no instruction reads cc before one that sets it
 abbrev pub SetFirst : List PlainInstr → Type 0

@@ -10,7 +10,6 @@ use Rattle.po_ir.specs.declared.unit.Op.TheVariants as op
 use Rattle.po_ir.specs.declared.unit.Unit.{Unit as StackUnit}
 use Rattle.po_ir.specs.Ops.{label_in, labels_of, target_in}
 use Rattle.po_ir.specs.Units.{IsOp, IsUnit}
-use Rattle.po_model.specs.Blocks.{PlainInstr}
 use Rattle.po_model.specs.Naive.{Text, pieces, sym_in, each_once, blocks_in, naive}
 use Rattle.po_model.specs.UnitCodes.{all_written, ReadsBehind, IsNamedBlock, IsUnitCode}
 use Rattle.po_expand.proofs.Cutting.{flat_cut, cut_few, instrs_few}
@@ -18,6 +17,7 @@ use Rattle.po_expand.proofs.Places.{all_has, all_once, once_few}
 use Rattle.po_expand.proofs.Pieces.{Knows, pieces_sound, pieces_few}
 use Rattle.po_expand.proofs.Sound.{GoodBlock, cut_ends, cut_good, sets_apart}
 use Rattle.po_expand.proofs.Units.{unit_fits}
+use Rattle.po_term.specs.Moves.{PlainInstr}
 
 module _ {A : Type 0} (P : A → Type 0) where
   front : (xs ys : List A) → AllByRecursion P (xs ++ ys) → AllByRecursion P xs
@@ -93,17 +93,30 @@ unit_code u h =
     (recursion_from_All (λ l. has l labels ≡ true) (flat_map target_in u.ops) (all_once (labels_of u.ops) (flat_map target_in u.ops) h.targets))
     (recursion_from_All (λ s. has s syms ≡ true) (flat_map sym_in u.ops) (all_once (flat_map sym_in u.ops) (flat_map sym_in u.ops) (all_has (flat_map sym_in u.ops)))) in
     let sound = pieces_sound labels syms few_labels few_syms 0 [] [] u.ops (omega (arith, h.few)) tt (unit_fits u h) known in
-    let good = cut_good (length labels) (length syms) 0 (pieces labels syms 0 [] u.ops) sound in
+    let naive_pieces = pieces labels syms 0 [] u.ops in
+    let Good = GoodBlock (length labels) (length syms) in
+    let good = cut_good (length labels) (length syms) 0 naive_pieces sound in
     let code = blocks_in labels syms u.ops in
-    let kept = flat_cut None [] (pieces labels syms 0 [] u.ops) in
+    let kept = flat_cut None [] naive_pieces in
+    let apart = sets_apart (length labels) (length syms) 0 [] naive_pieces sound in
     record {
-      ends_last = cut_ends (pieces labels syms 0 [] u.ops);
-      formed = All-weaker (GoodBlock (length labels) (length syms)) (λ b. All WellFormed b.instrs) (λ b g. g.formed) code good;
-      straight = record {
-        once = subst (λ (is : List PlainInstr). AllPairs (λ v w. v ≢ w) (all_written is)) (sym kept) (sets_apart (length labels) (length syms) 0 [] (pieces labels syms 0 [] u.ops) sound);
-        behind = All-weaker (GoodBlock (length labels) (length syms)) (λ b. ReadsBehind [] b.instrs) (λ b g. g.behind) code good;
+      placeable = record {
+        form = record {
+          ends_last = cut_ends naive_pieces;
+          formed = All-weaker Good (λ b. All WellFormed b.instrs) (λ b g. g.formed) code good;
+        };
+        straight = record {
+          once = subst (λ (is : List PlainInstr). AllPairs (λ v w. v ≢ w) (all_written is)) (sym kept) apart;
+          behind = All-weaker Good (λ b. ReadsBehind [] b.instrs) (λ b g. g.behind) code good;
+        };
+        few_instrs = omega (
+          arith,
+          ap (λ (is : List PlainInstr). length is) kept,
+          instrs_few naive_pieces,
+          pieces_few labels syms 0 [] u.ops,
+          h.few,
+        );
+        few_blocks = omega (arith, cut_few None [] naive_pieces, pieces_few labels syms 0 [] u.ops, h.few);
       };
-      named = All-weaker (GoodBlock (length labels) (length syms)) (IsNamedBlock (length labels) (length syms)) (λ b g. g.named) code good;
-      few_instrs = omega (arith, ap (λ (is : List PlainInstr). length is) kept, instrs_few (pieces labels syms 0 [] u.ops), pieces_few labels syms 0 [] u.ops, h.few);
-      few_blocks = omega (arith, cut_few None [] (pieces labels syms 0 [] u.ops), pieces_few labels syms 0 [] u.ops, h.few);
+      named = All-weaker Good (IsNamedBlock (length labels) (length syms)) (λ b g. g.named) code good;
     }

@@ -3,10 +3,11 @@ use Rattle.std.proofs.Common.{◌≡◌, suc, ◌+◌, ◌≤◌, Bool, true, fa
 use Rattle.std.specs.Prelude.{All, is_some, if◌then◌else◌}
 use Rattle.std.proofs.lemmas.List.Elements.{All-nil, All-cons, All-append}
 use Rattle.po_term.specs.declared.term.Label.{Label}
-use Rattle.po_term.specs.Form.{PlainMove}
-use Rattle.po_model.specs.Blocks.{PlainInstr, PlainBlock, ending_of}
+use Rattle.po_model.specs.Blocks.{PlainBlock}
 use Rattle.po_model.specs.Naive.{Piece, Mark, Does, unless_blank, cut}
 use Rattle.po_model.specs.UnitCodes.{flat}
+use Rattle.po_term.specs.Moves.{PlainMove, PlainInstr}
+use Rattle.po_model.specs.Parts.{ending_of}
 
 -- the instructions of pieces
 abbrev pub instrs_in : List Piece → List PlainInstr

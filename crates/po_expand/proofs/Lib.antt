@@ -9,3 +9,4 @@ pub mod Sound
 pub mod Pieces
 pub mod Codes
 pub mod CcAtStarts
+pub mod Results

@@ -13,8 +13,8 @@ use Rattle.po_term.specs.declared.term.Reg.TheVariants.{Virt, Fp, Rv, Arg}
 use Rattle.po_term.specs.declared.term.Sym.{Sym}
 use Rattle.po_term.specs.Tree.{Tree, Const, Leaf, Read, Unary, Binary, EachLeaf}
 use Rattle.po_term.specs.Terms.{Place, AtSym}
-use Rattle.po_term.specs.Moves.{GoTo, IfCc, CallOf, Return, SetTo, CcTo, StoreTo, Ends}
-use Rattle.po_term.specs.Form.{PlainMove, WellFormedTerm, WellFormedMove, WellFormed, GoesBefore}
+use Rattle.po_term.specs.Moves.{GoTo, IfCc, CallOf, Return, SetTo, CcTo, StoreTo, Ends, PlainMove}
+use Rattle.po_term.specs.Form.{WellFormedTerm, WellFormedMove, WellFormed, GoesBefore}
 use Rattle.po_lines.specs.NameList.{has}
 use Rattle.po_ir.specs.declared.unit.Op.{Op}
 use Rattle.po_ir.specs.declared.unit.Op.TheVariants as op

@@ -4,10 +4,10 @@ use Rattle.std.specs.Prelude.{is_some, ⊤}
 use Rattle.std.specs.Global.{Vec}
 use mathlib.Core.Logic.{inl, inr}
 use Rattle.po_term.specs.declared.transfer.Instr.{Instr}
-use Rattle.po_term.specs.Moves.{instr_of, instrs_of}
+use Rattle.po_term.specs.Moves.{instr_of, instrs_of, PlainInstr}
 use Rattle.po_model.specs.declared.code.Block.{Block}
 use Rattle.po_model.specs.declared.machine.Machine.{Machine}
-use Rattle.po_model.specs.Blocks.{PlainInstr, PlainBlock, block_of, instrs_at}
+use Rattle.po_model.specs.Blocks.{PlainBlock, block_of, instrs_at}
 use Rattle.po_model.specs.Fit.{fit}
 use Rattle.po_model.specs.Fitted.{instr_at, TellsCc, FitsAt, IsBefore}
 use Rattle.po_model.specs.UnitCodes.{flat}

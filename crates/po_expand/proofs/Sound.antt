@@ -4,14 +4,15 @@ use Rattle.std.specs.Prelude.{All, AllPairs, Contains, is_some, if◌then◌else
 use Rattle.std.proofs.lemmas.List.Elements.{All-nil, All-cons, All-push}
 use Rattle.po_term.specs.declared.term.Reg.TheVariants.{Virt, Fp, Rv, Arg}
 use Rattle.po_term.specs.declared.term.Label.{Label}
-use Rattle.po_term.specs.Moves.{SetTo, CcTo, StoreTo, Ends}
-use Rattle.po_term.specs.Form.{PlainMove, WellFormed}
+use Rattle.po_term.specs.Moves.{SetTo, CcTo, StoreTo, Ends, PlainMove, PlainInstr}
+use Rattle.po_term.specs.Form.{WellFormed}
 use Rattle.po_model.specs.declared.var.Var.TheVariants.{Reg}
-use Rattle.po_model.specs.Blocks.{PlainInstr, PlainBlock, ending_of, EndsLast}
+use Rattle.po_model.specs.Blocks.{PlainBlock, EndsLast}
 use Rattle.po_model.specs.LiveAfter.{reads}
 use Rattle.po_model.specs.Naive.{Piece, Mark, Does, cut}
 use Rattle.po_model.specs.UnitCodes.{written, all_written, ReadsBehind, NamedMove, NamedLabel, IsNamedBlock}
 use Rattle.po_expand.proofs.Cutting.{instrs_in, ends_block, cut_all}
+use Rattle.po_model.specs.Parts.{ending_of}
 
 -- a move that sets a virtual register sets the register v with this number
 abbrev pub SetsNext : ℕ → PlainMove → Type 0

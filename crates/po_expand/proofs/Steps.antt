@@ -9,8 +9,7 @@ use Rattle.po_term.specs.declared.term.Label.{Label}
 use Rattle.po_term.specs.declared.term.Sym.{Sym}
 use Rattle.po_term.specs.Tree.{Tree, Const, Read, Unary, Binary}
 use Rattle.po_term.specs.Terms.{Place}
-use Rattle.po_term.specs.Moves.{GoTo, IfCc, CallOf, Return, SetTo, CcTo, StoreTo, Ends}
-use Rattle.po_term.specs.Form.{PlainMove}
+use Rattle.po_term.specs.Moves.{GoTo, IfCc, CallOf, Return, SetTo, CcTo, StoreTo, Ends, PlainMove}
 use Rattle.po_ir.specs.declared.unit.Op.TheVariants as op
 use Rattle.po_model.specs.Naive.{Text, label, symbol, number_in, register, virt}
 use Rattle.po_expand.specs.Steps.{Between, added, defined, pushed, closed, marked, Expands}

@@ -2,12 +2,13 @@
 use Rattle.std.specs.Prelude.{ℕ, ◌<◌, ◌≡◌, Bool, true, false, List, length, Result, Ok, Err, is_some, ⊤}
 use Rattle.std.specs.Global.{Vec}
 use Rattle.po_model.specs.declared.machine.Machine.{Machine}
-use Rattle.po_model.specs.Blocks.{PlainInstr, PlainBlock, instrs_at}
+use Rattle.po_model.specs.Blocks.{PlainBlock, instrs_at}
 use Rattle.po_model.specs.Fit.{fit}
 use Rattle.po_model.specs.Fitted.{instr_at, IsRecognised, IsUnrecognised}
 use Rattle.po_live.specs.Flags.{flag_at, flags_at}
 use Rattle.po_expand.specs.declared.refusal.CheckRefusal.{CheckRefusal}
 use Rattle.po_expand.specs.declared.refusal.CheckRefusal.TheVariants.{Unrecognised, OutOfMemory}
+use Rattle.po_term.specs.Moves.{PlainInstr}
 
 -- what a check answers
 abbrev pub Checks : Machine → List PlainBlock → Result ⊤ CheckRefusal → Type 0

@@ -4,11 +4,10 @@ use Rattle.po_term.specs.declared.term.Label.{Label}
 use Rattle.po_term.specs.declared.term.Reg.TheVariants.{Virt}
 use Rattle.po_term.specs.Tree.{Tree}
 use Rattle.po_term.specs.Terms.{Place}
-use Rattle.po_term.specs.Moves.{SetTo, instrs_of}
-use Rattle.po_term.specs.Form.{PlainMove}
+use Rattle.po_term.specs.Moves.{SetTo, instrs_of, PlainMove, PlainInstr}
 use Rattle.po_ir.specs.declared.unit.Op.{Op}
 use Rattle.po_ir.specs.Ops.{depth_by}
-use Rattle.po_model.specs.Blocks.{PlainInstr, PlainBlock, block_of}
+use Rattle.po_model.specs.Blocks.{PlainBlock, block_of}
 use Rattle.po_model.specs.Naive.{Text, pieces, cut, unless_blank}
 use Rattle.po_expand.specs.declared.state.Expansion.{Expansion}
 

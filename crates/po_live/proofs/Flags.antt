@@ -9,12 +9,12 @@ use mathlib.Core.Logic.{◌⊎◌, inl, inr}
 use Rattle.po_term.specs.declared.transfer.Instr.{Instr}
 use Rattle.po_term.specs.Tree.{Tree, Const, Leaf, Read, Unary, Binary}
 use Rattle.po_term.specs.Terms.{Place, InReg, AtSym}
-use Rattle.po_term.specs.Moves.{instr_of, instrs_of}
+use Rattle.po_term.specs.Moves.{instr_of, instrs_of, PlainInstr}
 use Rattle.po_model.specs.declared.code.Block.{Block}
 use Rattle.po_model.specs.declared.pair.Live.{Live}
 use Rattle.po_model.specs.declared.var.Var.{Var}
 use Rattle.po_model.specs.declared.var.Var.TheVariants.{Cc}
-use Rattle.po_model.specs.Blocks.{PlainInstr, PlainBlock, block_of, instrs_at, leads}
+use Rattle.po_model.specs.Blocks.{PlainBlock, block_of, instrs_at, leads}
 use Rattle.po_model.specs.LiveAfter.{term_reads, reads, sets, IsRead, LiveAfter}
 use Rattle.po_model.specs.LiveSets.{holds_at}
 use Rattle.po_live.specs.Sets.{back, nothing}

@@ -9,12 +9,12 @@ use mathlib.Core.Logic.{◌⊎◌, inl, inr}
 use Rattle.po_term.specs.declared.term.Reg.{Reg as Register}
 use Rattle.po_term.specs.declared.term.Reg.TheVariants.{Fp}
 use Rattle.po_term.specs.declared.transfer.Instr.{Instr}
-use Rattle.po_term.specs.Moves.{instr_of, instrs_of}
+use Rattle.po_term.specs.Moves.{instr_of, instrs_of, PlainInstr}
 use Rattle.std.proofs.Common.{drop-cons}
 use Rattle.po_model.specs.declared.pair.Live.{Live}
 use Rattle.po_model.specs.declared.var.Var.{Var}
 use Rattle.po_model.specs.declared.var.Var.TheVariants.{Reg, Cc}
-use Rattle.po_model.specs.Blocks.{PlainInstr, PlainBlock, block_of, instrs_at}
+use Rattle.po_model.specs.Blocks.{PlainBlock, block_of, instrs_at}
 use Rattle.po_model.specs.LiveAfter.{reads, sets, IsRead, IsLive, LiveAfter}
 use Rattle.po_model.specs.LiveSets.{holds, holds_at, lives_at}
 use Rattle.po_live.specs.Sets.{is_fp, back, AreAfter}

@@ -1,11 +1,16 @@
+-- Sets of registers
 pub mod Keys
-pub mod Moved
+pub mod Outs
+-- The blocks before a block
 pub mod Preds
 pub mod Graphs
-pub mod Paths
-pub mod Outs
+-- Backwards through the instructions of a block
+pub mod Moved
+pub mod Instrs
+pub mod Flags
+-- From block to block, until nothing is due
 pub mod Fuel
 pub mod Spreads
 pub mod Solved
-pub mod Instrs
-pub mod Flags
+-- The sets are those by paths
+pub mod Paths

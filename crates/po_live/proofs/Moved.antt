@@ -7,9 +7,7 @@ use Rattle.std.specs.Prelude.{◌||◌}
 use Rattle.std.specs.List.{list_any}
 use Rattle.po_term.specs.declared.transfer.Transfer.{Transfer}
 use Rattle.po_term.specs.declared.transfer.Instr.{Instr}
-use Rattle.po_term.specs.Moves.{move_of, moves_of, instr_of, instrs_of}
-use Rattle.po_term.specs.Form.{PlainMove}
-use Rattle.po_model.specs.Blocks.{PlainInstr}
+use Rattle.po_term.specs.Moves.{move_of, moves_of, instr_of, instrs_of, PlainMove, PlainInstr}
 
 pub any_move : (f : PlainMove → Bool) (xs : List Transfer) → list_any f (moves_of xs) ≡ list_any (λ t. f (move_of t)) xs
 any_move f [] = refl

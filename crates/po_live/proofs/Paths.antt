@@ -3,9 +3,10 @@ use Rattle.std.proofs.Common.{◌≡◌, ℕ, Bool, true, false, List, [], ◌�
 use Rattle.std.specs.Prelude.{not, ◌||◌, ◌&&◌, ◌↔◌}
 use Rattle.std.proofs.lemmas.Bool.{false≢true, true≢false}
 use Rattle.po_model.specs.declared.var.Var.{Var}
-use Rattle.po_model.specs.Blocks.{PlainInstr, PlainBlock, instrs_at, leads}
+use Rattle.po_model.specs.Blocks.{PlainBlock, instrs_at, leads}
 use Rattle.po_model.specs.LiveAfter.{reads, sets, Point, Follows, ReadOn, IsRead}
 use Rattle.po_live.specs.Sets.{back, nothing, sets_any}
+use Rattle.po_term.specs.Moves.{PlainInstr}
 
 or_true : (r w b : Bool) → w ≡ false → b ≡ true → (r || (not w && b)) ≡ true
 or_true true w b e f = refl

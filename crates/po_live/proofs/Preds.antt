@@ -7,8 +7,9 @@ use Rattle.std.specs.Global.{Vec}
 use Rattle.std.proofs.lemmas.List.Folds.{list_any-append}
 use Rattle.po_term.specs.declared.transfer.Instr.{Instr}
 use Rattle.po_term.specs.Moves.{instr_of, instrs_of}
-use Rattle.po_model.specs.Blocks.{ending_of, block_ending}
+use Rattle.po_model.specs.Blocks.{block_ending}
 use Rattle.po_live.specs.Flow.{pred_at}
+use Rattle.po_model.specs.Parts.{ending_of}
 
 pub on_ok : {A E : Type 0} (r : Result A E) {P Q : Type 0} → (P → Q) → OnOk r P → OnOk r Q
 on_ok (Ok x) f h = f h

@@ -5,7 +5,7 @@ use Rattle.std.proofs.lemmas.Bool.{true≢false, false≢true, or_cases, and_par
 use Rattle.std.proofs.lemmas.Bool.Decides.{nat_tests}
 use mathlib.Core.Logic.{◌⊎◌, inl, inr}
 use Rattle.po_model.specs.declared.var.Var.{Var}
-use Rattle.po_model.specs.Blocks.{PlainInstr, PlainBlock, block_of, instrs_at, leads}
+use Rattle.po_model.specs.Blocks.{PlainBlock, block_of, instrs_at, leads}
 use Rattle.po_model.specs.LiveAfter.{IsRead}
 use Rattle.po_live.specs.declared.solve.Due.{Due}
 use Rattle.po_live.specs.Sets.{var_eq, back, nothing, sets_any}
@@ -20,6 +20,7 @@ use Rattle.po_model.specs.declared.pair.Live.{Live}
 use Rattle.po_model.specs.LiveSets.{holds_at}
 use Rattle.po_live.proofs.Fuel.{eq_refl, var_eq_refl, var_eq_true}
 use Rattle.po_live.proofs.Paths.{IsClosed, IsJustified, back_split, back_same, reached, from_end, through}
+use Rattle.po_term.specs.Moves.{PlainInstr}
 
 lt_true : (a b : ℕ) → nat_lt a b ≡ true → a < b
 lt_true a b e = grind (arith, nat_tests)

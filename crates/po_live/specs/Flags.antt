@@ -2,8 +2,8 @@
 use Rattle.std.specs.Prelude.{ℕ, zero, suc, Bool, false, List, [], ◌∷◌}
 use Rattle.std.specs.Global.{Vec}
 use Rattle.po_model.specs.declared.var.Var.TheVariants.{Cc}
-use Rattle.po_model.specs.Blocks.{PlainInstr}
 use Rattle.po_live.specs.Sets.{back}
+use Rattle.po_term.specs.Moves.{PlainInstr}
 
 -- whether cc is live before xs, from whether it is behind them
 abbrev pub cc_before : List PlainInstr → Bool → Bool

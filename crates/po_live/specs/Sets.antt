@@ -6,9 +6,9 @@ use Rattle.po_term.specs.Simplified.{reg_eq}
 use Rattle.po_model.specs.declared.pair.Live.{Live}
 use Rattle.po_model.specs.declared.var.Var.{Var}
 use Rattle.po_model.specs.declared.var.Var.TheVariants.{Reg, Cc}
-use Rattle.po_model.specs.Blocks.{PlainInstr}
 use Rattle.po_model.specs.LiveAfter.{reads, sets, is_reg}
 use Rattle.po_model.specs.LiveSets.{holds}
+use Rattle.po_term.specs.Moves.{PlainInstr}
 
 -- whether both are one
 abbrev pub var_eq : Var → Var → Bool

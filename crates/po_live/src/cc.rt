@@ -2,9 +2,9 @@
 //! sets it, as in naive code, `cc` is live at the end of no block, and two walks back through each block are all the work.
 ghost use Rattle.std.specs.Prelude.{◌≡◌, ◌<◌, ◌↔◌, ◌||◌, ◌&&◌, not, true, false, ℕ, List, IfOk, OnOk, map, length, ◌++◌, ◌∷◌, []};
 ghost use Rattle.std.specs.List.{list_any};
-ghost use Rattle.po_term.specs.Moves.{move_of, moves_of, instr_of, instrs_of};
+ghost use Rattle.po_term.specs.Moves.{move_of, moves_of, instr_of, instrs_of, PlainInstr};
 ghost use Rattle.po_model.specs.declared.var.Var.TheVariants.{Cc};
-ghost use Rattle.po_model.specs.Blocks.{PlainInstr, block_of, instrs_at};
+ghost use Rattle.po_model.specs.Blocks.{block_of, instrs_at};
 ghost use Rattle.po_model.specs.LiveAfter.{move_reads, move_sets, reads, sets, IsRead};
 ghost use Rattle.po_live.specs.Flags.{cc_before, cc_after, flag_at, flags_at};
 

@@ -4,8 +4,9 @@ ghost use Rattle.std.specs.Ordering.{nat_cmp};
 ghost use Rattle.std.specs.BTreeMap.{get};
 ghost use Rattle.po_term.specs.declared.term.Label.{Label as Mark};
 ghost use Rattle.po_term.specs.Moves.{moves_of, instrs_of};
-ghost use Rattle.po_model.specs.Blocks.{block_of, ending_of, block_ending, block_with, target_by, goes_on, has_label, is_at, leads};
+ghost use Rattle.po_model.specs.Blocks.{block_of, block_ending, block_with, target_by, goes_on, has_label, is_at, leads};
 ghost use Rattle.po_live.specs.Flow.{exit_by, pred_at, exit_target, exit_next, exit_leads};
+ghost use Rattle.po_model.specs.Parts.{ending_of};
 
 use po_model::Block;
 use po_term::{Cond, Instr, Label, Transfer};

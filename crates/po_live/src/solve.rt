@@ -1,9 +1,9 @@
 //! What is live at the ends of blocks. What is live at the start of a block is due to be passed on to the blocks before it; each
 //! register and `cc` is passed on from a block once or twice, and when nothing is due any more the sets are complete.
 ghost use Rattle.std.specs.Prelude.{◌≡◌, ◌==◌, ◌<◌, ◌≤◌, ◌+◌, ℕ, OnOk, IfOk, not, true, false, ◌||◌, ◌&&◌, List, ◌++◌, ◌∷◌, [], map, length, nat_lt, ◌↔◌};
-ghost use Rattle.po_term.specs.Moves.{instrs_of};
+ghost use Rattle.po_term.specs.Moves.{instrs_of, PlainInstr};
 ghost use Rattle.po_model.specs.declared.var.Var.{Var as Variable};
-ghost use Rattle.po_model.specs.Blocks.{PlainInstr, block_of, instrs_at};
+ghost use Rattle.po_model.specs.Blocks.{block_of, instrs_at};
 ghost use Rattle.po_model.specs.LiveAfter.{IsRead};
 ghost use Rattle.po_model.specs.LiveSets.{holds, holds_at};
 ghost use Rattle.po_live.specs.Sets.{var_eq, back, nothing, sets_any};

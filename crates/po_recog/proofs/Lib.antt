@@ -3,3 +3,4 @@ pub mod Walks
 pub mod Agreed
 pub mod Clobbers
 pub mod Limits
+pub mod Passed

@@ -11,9 +11,10 @@ use Rattle.po_model.specs.declared.machine.PatTerm.TheVariants as pattern
 use Rattle.po_model.specs.declared.machine.PatTerm.TheOpen.{PatTerm-F}
 use Rattle.po_model.specs.declared.machine.PatTerm.TheFolds.{fold-roll-PatTerm}
 use Rattle.po_model.specs.Patterns.{PatTree, layer_of, pattern_of}
-use Rattle.po_model.specs.Tests.{bin_eq}
-use Rattle.po_model.specs.Fit.{Found, both, places, tree_found}
+use Rattle.po_model.specs.Operators.{bin_eq}
+use Rattle.po_model.specs.Fit.{Found, both, tree_found}
 use Rattle.po_recog.specs.Taken.{Slots, and_on, taken_one, taken, taken_if, outcome}
+use Rattle.po_model.specs.Parts.{code_leaves}
 
 abbrev Finds : Type 0
 Finds = List (Found ℕ Register Symbol)
@@ -61,17 +62,17 @@ unfolding roll-PatTerm roll
 pattern_binary o p v = fold-roll-PatTerm PatTree layer_of (PatTerm-F.Bin o p v)
 
 -- two operands behind one operator
-pub binary_walked : (o q : Bin) (same a b : Bool) (p v : PatTerm) (t u : Tree ℕ Place) (ss us vs : Slots) → same ≡ bin_eq o q → same ≡ true → outcome a us ≡ taken_if (tree_found places (pattern_of p) t) ss → outcome b vs ≡ taken_if (tree_found places (pattern_of v) u) us → a ≡ true → outcome b vs ≡ taken_if (tree_found places (pattern_of (pattern.Bin o p v)) (Binary q t u)) ss
+pub binary_walked : (o q : Bin) (same a b : Bool) (p v : PatTerm) (t u : Tree ℕ Place) (ss us vs : Slots) → same ≡ bin_eq o q → same ≡ true → outcome a us ≡ taken_if (tree_found code_leaves (pattern_of p) t) ss → outcome b vs ≡ taken_if (tree_found code_leaves (pattern_of v) u) us → a ≡ true → outcome b vs ≡ taken_if (tree_found code_leaves (pattern_of (pattern.Bin o p v)) (Binary q t u)) ss
 binary_walked o q same a b p v t u ss us vs s e h i f =
     let one : bin_eq o q ≡ true = sym s ∙ e in
-    let both_walked : outcome b vs ≡ taken_if (tree_found places (Binary o (pattern_of p) (pattern_of v)) (Binary q t u)) ss = rw one (walked a b (tree_found places (pattern_of p) t) (tree_found places (pattern_of v) u) ss us vs h i f) in
-    both_walked ∙ ap (λ (x : PatTree). taken_if (tree_found places x (Binary q t u)) ss) (sym (pattern_binary o p v))
+    let both_walked : outcome b vs ≡ taken_if (tree_found code_leaves (Binary o (pattern_of p) (pattern_of v)) (Binary q t u)) ss = rw one (walked a b (tree_found code_leaves (pattern_of p) t) (tree_found code_leaves (pattern_of v) u) ss us vs h i f) in
+    both_walked ∙ ap (λ (x : PatTree). taken_if (tree_found code_leaves x (Binary q t u)) ss) (sym (pattern_binary o p v))
 
-pub binary_stopped : (o q : Bin) (same a : Bool) (p v : PatTerm) (t u : Tree ℕ Place) (ss us : Slots) → same ≡ bin_eq o q → same ≡ true → outcome a us ≡ taken_if (tree_found places (pattern_of p) t) ss → a ≡ false → None ≡ taken_if (tree_found places (pattern_of (pattern.Bin o p v)) (Binary q t u)) ss
+pub binary_stopped : (o q : Bin) (same a : Bool) (p v : PatTerm) (t u : Tree ℕ Place) (ss us : Slots) → same ≡ bin_eq o q → same ≡ true → outcome a us ≡ taken_if (tree_found code_leaves (pattern_of p) t) ss → a ≡ false → None ≡ taken_if (tree_found code_leaves (pattern_of (pattern.Bin o p v)) (Binary q t u)) ss
 binary_stopped o q same a p v t u ss us s e h f =
     let one : bin_eq o q ≡ true = sym s ∙ e in
-    let first_stopped : None ≡ taken_if (tree_found places (Binary o (pattern_of p) (pattern_of v)) (Binary q t u)) ss = rw one (stopped a (tree_found places (pattern_of p) t) (tree_found places (pattern_of v) u) ss us h f) in
-    first_stopped ∙ ap (λ (x : PatTree). taken_if (tree_found places x (Binary q t u)) ss) (sym (pattern_binary o p v))
+    let first_stopped : None ≡ taken_if (tree_found code_leaves (Binary o (pattern_of p) (pattern_of v)) (Binary q t u)) ss = rw one (stopped a (tree_found code_leaves (pattern_of p) t) (tree_found code_leaves (pattern_of v) u) ss us h f) in
+    first_stopped ∙ ap (λ (x : PatTree). taken_if (tree_found code_leaves x (Binary q t u)) ss) (sym (pattern_binary o p v))
 
 pub nothing_behind : (x : Option Finds) → both x None ≡ None
 nothing_behind None = refl

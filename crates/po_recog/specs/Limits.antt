@@ -1,9 +1,8 @@
 -- What a list of transfers has that an entry fits: it is as long, and its terms are as large, as those of an instruction may be.
-use Rattle.std.specs.Prelude.{ℕ, ◌≤◌, Bool, List, length, All, IsSome, ⊤}
+use Rattle.std.specs.Prelude.{ℕ, ◌≤◌, Bool, length, All, IsSome, ⊤}
 use Rattle.po_term.specs.Tree.{Tree, tree_size, tree_depth}
 use Rattle.po_term.specs.Terms.{Place}
-use Rattle.po_term.specs.Moves.{GoTo, IfCc, IfTwo, CallOf, Return, SetTo, CcTo, StoreTo, Ends}
-use Rattle.po_term.specs.Form.{PlainMove}
+use Rattle.po_term.specs.Moves.{GoTo, IfCc, IfTwo, CallOf, Return, SetTo, CcTo, StoreTo, Ends, PlainMove, PlainInstr}
 use Rattle.po_model.specs.declared.machine.Machine.{Machine}
 use Rattle.po_model.specs.Machines.{IsMachine}
 use Rattle.po_model.specs.Fit.{fit}
@@ -24,11 +23,11 @@ HasSmallTerms (Ends (IfTwo t u r l)) = IsSmall t × IsSmall u
 HasSmallTerms (Ends (CallOf s n)) = ⊤
 HasSmallTerms (Ends Return) = ⊤
 
-pub record IsWithinLimits (ms : List PlainMove) : Type 0 where
+pub record IsWithinLimits (ms : PlainInstr) : Type 0 where
   pub some : 1 ≤ length ms
   pub few : length ms ≤ 4
   pub terms : All HasSmallTerms ms
 
 -- what an entry of a machine fits is within the limits
 abbrev pub FitsWithinLimits : Type 0
-FitsWithinLimits = (m : Machine) (cc_live : Bool) (ms : List PlainMove) → IsMachine m → IsSome (fit m cc_live ms) → IsWithinLimits ms
+FitsWithinLimits = (m : Machine) (cc_live : Bool) (ms : PlainInstr) → IsMachine m → IsSome (fit m cc_live ms) → IsWithinLimits ms

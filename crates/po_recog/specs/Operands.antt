@@ -3,7 +3,7 @@ use Rattle.std.specs.Prelude.{ℕ, List, [], ◌∷◌, map, Option}
 use Rattle.std.specs.Option.{option_map}
 use Rattle.po_term.specs.declared.term.Reg.{Reg as Register}
 use Rattle.po_term.specs.declared.term.Sym.{Sym as Symbol}
-use Rattle.po_model.specs.Fit.{Found, Thing, ARegister, AConstant, ASymbol, ALabel, places, operand_of}
+use Rattle.po_model.specs.Fit.{Found, Thing, ARegister, AConstant, ASymbol, ALabel, operand_of}
 use Rattle.po_recog.specs.declared.answer.Operand.{Operand}
 use Rattle.po_recog.specs.declared.answer.Operand.TheVariants.{Reg, Num, Label, Sym}
 use Rattle.po_recog.specs.declared.answer.Fit.{Fit}
@@ -19,7 +19,7 @@ digits = 0 ∷ 1 ∷ 2 ∷ 3 ∷ 4 ∷ 5 ∷ 6 ∷ 7 ∷ 8 ∷ 9 ∷ []
 
 -- what the operand k stands for
 abbrev pub operand_at : List (Found ℕ Register Symbol) → ℕ → Option Operand
-operand_at fs k = option_map operand_from (operand_of places k fs)
+operand_at fs k = option_map operand_from (operand_of k fs)
 
 -- what the operands 0 to 9 stand for
 abbrev pub operands_in : List (Found ℕ Register Symbol) → List (Option Operand)

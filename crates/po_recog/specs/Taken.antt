@@ -1,10 +1,11 @@
 -- The operands that are filled on the way through a pattern, and what each thing that is found there makes of them.
-use Rattle.std.specs.Prelude.{ℕ, ℤ, Bool, true, false, ◌==◌, if◌then◌else◌, List, [], ◌∷◌, Option, Some, None, slice_get, slice_set}
+use Rattle.std.specs.Prelude.{ℕ, Bool, true, false, ◌==◌, if◌then◌else◌, List, [], ◌∷◌, Option, Some, None, slice_get, slice_set}
 use Rattle.po_word.specs.Exprs.{Within, is_so}
 use Rattle.po_word.specs.Words.{signed}
 use Rattle.po_term.specs.declared.term.Reg.{Reg as Register}
 use Rattle.po_term.specs.declared.term.Sym.{Sym as Symbol}
 use Rattle.po_term.specs.Simplified.{reg_eq}
+use Rattle.po_model.specs.declared.machine.Bounds.{Bounds}
 use Rattle.po_model.specs.Fit.{Found, AtNumber, AtOperand}
 use Rattle.po_recog.specs.declared.answer.Operand.{Operand}
 use Rattle.po_recog.specs.declared.answer.Operand.TheVariants.{Reg, Num, Label, Sym}
@@ -21,17 +22,17 @@ same_operand (Sym s) (Sym t) = s.0 == t.0
 same_operand x y = false
 
 -- a constant lies in the range, where there is one
-abbrev pub lies_in : Option (ℤ × ℤ) → Operand → Bool
-lies_in (Some ends) (Num c) = is_so (Within c ends.0 ends.1)
+abbrev pub lies_in : Option Bounds → Operand → Bool
+lies_in (Some range) (Num c) = is_so (Within c range.lo range.hi)
 lies_in range x = true
 
 -- an operand at the place k, where this stands there so far
-abbrev pub put_behind : Option (Option Operand) → ℕ → Option (ℤ × ℤ) → Operand → Slots → Option Slots
+abbrev pub put_behind : Option (Option Operand) → ℕ → Option Bounds → Operand → Slots → Option Slots
 put_behind None k range x ss = None
 put_behind (Some None) k range x ss = if lies_in range x then Some (slice_set ss k (Some x)) else None
 put_behind (Some (Some y)) k range x ss = if same_operand y x then Some ss else None
 
-abbrev pub put : ℕ → Option (ℤ × ℤ) → Operand → Slots → Option Slots
+abbrev pub put : ℕ → Option Bounds → Operand → Slots → Option Slots
 put k range x ss = put_behind (slice_get ss k) k range x ss
 
 abbrev pub taken_one : Found ℕ Register Symbol → Slots → Option Slots

@@ -1,15 +1,13 @@
 //! The first entry that fits: entries are tried in order, and what one of them filled goes before the next is tried.
-ghost use Rattle.std.specs.Prelude.{◌≡◌, ◌<◌, ◌^◌, ℕ, List, Bool, true, false, length, IfOk, IsSome, is_some};
+ghost use Rattle.std.specs.Prelude.{◌≡◌, ◌<◌, ◌^◌, Bool, true, false, length, IfOk, IsSome, is_some};
 ghost use Rattle.std.specs.Option.{option_map};
-ghost use Rattle.po_term.specs.declared.term.Reg.{Reg};
-ghost use Rattle.po_term.specs.declared.term.Sym.{Sym};
-ghost use Rattle.po_term.specs.Terms.{Place};
-ghost use Rattle.po_term.specs.Moves.{Move, moves_of};
+ghost use Rattle.po_term.specs.Moves.{PlainInstr, moves_of};
 ghost use Rattle.po_term.specs.Kinds.{words};
-ghost use Rattle.po_model.specs.Fit.{places, entry_fit, first_fit, fit};
+ghost use Rattle.po_model.specs.Fit.{entry_fit, first_fit, fit};
 ghost use Rattle.po_recog.specs.Operands.{operands_in, fit_from, fit_of};
 ghost use Rattle.po_recog.specs.Filled.{filled_of};
 ghost use Rattle.po_recog.specs.Limits.{FitsWithinLimits};
+ghost use Rattle.po_model.specs.Parts.{code_leaves};
 
 use crate::heads::same_heads;
 use crate::walk::takes_moves;
@@ -29,7 +27,7 @@ pub struct Filled {
 /// The ten operands of an entry, where it fits. An entry that clobbers `cc` fits only where `cc` is dead.
 #[tactic(auto, using(crate::proofs::Agreed::entry_filled))]
 fn operands_of(e: &Entry, xs: &[Transfer], cc_live: bool) -> Option<[Option<Operand>; 10]>
-    ensures { result ≡ option_map operands_in (entry_fit places words cc_live e.now (moves_of xs.now)).got }
+    ensures { result ≡ option_map operands_in (entry_fit code_leaves words cc_live e.now (moves_of xs.now)).got }
 {
     if e.clobbers && cc_live {
         return None;
@@ -47,7 +45,7 @@ fn operands_of(e: &Entry, xs: &[Transfer], cc_live: bool) -> Option<[Option<Oper
 
 fn first(entries: &[Entry], xs: &[Transfer], cc_live: bool) -> Option<Filled>
     requires { length entries.now < 2 ^ 32 }
-    ensures { option_map filled_of result ≡ option_map fit_from (first_fit places words cc_live entries.now 0 (moves_of xs.now)).got }
+    ensures { option_map filled_of result ≡ option_map fit_from (first_fit code_leaves words cc_live entries.now 0 (moves_of xs.now)).got }
 {
     let mut number = 0;
     for e in entries {
@@ -97,7 +95,7 @@ pub fn is_recognised(m: &Machine, xs: &[Transfer], cc_live: bool) -> bool
 
 /// A law, and no work: what fits while `cc` is live fits while it is dead too, maybe an earlier entry.
 pub fn fits_while_cc_is_dead()
-    ensures { (m : Machine) (ms : List (Move ℕ Place Reg Sym)) → IsSome (fit m true ms) → IsSome (fit m false ms) }
+    ensures { (m : Machine) (ms : PlainInstr) → IsSome (fit m true ms) → IsSome (fit m false ms) }
 {}
 
 /// A law, and no work: what an entry of a machine that a description may tell of fits is within the limits of instructions.

@@ -4,14 +4,15 @@ ghost use Rattle.std.specs.Prelude.{◌≡◌, None, Bool, false};
 ghost use Rattle.po_term.specs.Terms.{tree_of};
 ghost use Rattle.po_term.specs.Moves.{move_of, moves_of};
 ghost use Rattle.po_model.specs.Patterns.{pattern_of, pat_move_of, pat_moves_of};
-ghost use Rattle.po_model.specs.Fit.{places, tree_found, move_found, moves_found};
+ghost use Rattle.po_model.specs.Fit.{tree_found, move_found, moves_found};
+ghost use Rattle.po_model.specs.Parts.{code_leaves};
 
 use crate::walk::{same_bin, same_un};
 use po_model::{PatTerm, PatTransfer};
 use po_term::{Term, Transfer};
 
 fn same_head(p: &PatTerm, t: &Term) -> bool
-    ensures { result ≡ false → tree_found places (pattern_of p.now) (tree_of t.now) ≡ None }
+    ensures { result ≡ false → tree_found code_leaves (pattern_of p.now) (tree_of t.now) ≡ None }
 {
     match (p, t) {
         (PatTerm::Reg(_), Term::Reg(_)) => true,
@@ -27,7 +28,7 @@ fn same_head(p: &PatTerm, t: &Term) -> bool
 
 #[tactic(auto, using(crate::proofs::Walks::nothing_behind))]
 fn same_kind(p: &PatTransfer, x: &Transfer) -> bool
-    ensures { result ≡ false → move_found places (pat_move_of p.now) (move_of x.now) ≡ None }
+    ensures { result ≡ false → move_found code_leaves (pat_move_of p.now) (move_of x.now) ≡ None }
 {
     match (p, x) {
         (PatTransfer::Set(_, p), Transfer::Set(_, t)) => same_head(p, t),
@@ -44,7 +45,7 @@ fn same_kind(p: &PatTransfer, x: &Transfer) -> bool
 /// Whether the heads are the same; where they aren't, a list of transfers doesn't have the pattern.
 #[tactic(auto, using(crate::proofs::Walks::nothing_behind))]
 pub(crate) fn same_heads(ps: &[PatTransfer], xs: &[Transfer]) -> bool
-    ensures { result ≡ false → moves_found places (pat_moves_of ps.now) (moves_of xs.now) ≡ None }
+    ensures { result ≡ false → moves_found code_leaves (pat_moves_of ps.now) (moves_of xs.now) ≡ None }
 {
     match ps {
         [] => xs.is_empty(),

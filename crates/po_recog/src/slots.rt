@@ -5,6 +5,7 @@ ghost use Rattle.po_word.specs.Exprs.{Within, is_so};
 ghost use Rattle.po_recog.specs.Taken.{same_operand, lies_in, put, outcome};
 
 use crate::Operand;
+use po_model::Bounds;
 
 /// Whether both are one operand.
 fn same(a: Operand, b: Operand) -> bool
@@ -28,22 +29,17 @@ pub(crate) fn is_within(c: u32, lo: i32, hi: i32) -> bool
 }
 
 /// Whether a constant lies in the range, where there is one.
-fn is_in(range: Option<(i32, i32)>, x: Operand) -> bool
+fn is_in(range: Option<Bounds>, x: Operand) -> bool
     ensures { result ≡ lies_in range x }
 {
     match (range, x) {
-        (Some((lo, hi)), Operand::Num(c)) => is_within(c, lo, hi),
+        (Some(range), Operand::Num(c)) => is_within(c, range.lo, range.hi),
         _ => true,
     }
 }
 
 /// Whether the operand at the digit k may be x: it lies in the range, if this is its first place, and else is what stands there.
-pub(crate) fn takes(
-    slots: &mut [Option<Operand>],
-    k: u8,
-    range: Option<(i32, i32)>,
-    x: Operand,
-) -> bool
+pub(crate) fn takes(slots: &mut [Option<Operand>], k: u8, range: Option<Bounds>, x: Operand) -> bool
     ensures { outcome result slots.new ≡ put k range x slots.old }
 {
     let k = usize::from(k);

@@ -5,9 +5,10 @@ ghost use Rattle.po_term.specs.Terms.{tree_of};
 ghost use Rattle.po_term.specs.Moves.{Ends, branch_of, move_of, moves_of};
 ghost use Rattle.po_model.specs.Patterns as pat;
 ghost use Rattle.po_model.specs.Patterns.{pattern_of, pat_move_of, pat_moves_of};
-ghost use Rattle.po_model.specs.Tests.{un_eq, bin_eq, rel_eq};
-ghost use Rattle.po_model.specs.Fit.{both, places, register_found, tree_found, move_found, moves_found};
+ghost use Rattle.po_model.specs.Operators.{un_eq, bin_eq, rel_eq};
+ghost use Rattle.po_model.specs.Fit.{both, register_found, tree_found, move_found, moves_found};
 ghost use Rattle.po_recog.specs.Taken.{taken_if, outcome};
+ghost use Rattle.po_model.specs.Parts.{code_leaves};
 
 use crate::Operand;
 use crate::slots::{is_within, takes};
@@ -34,7 +35,7 @@ fn same_rel(a: Rel, b: Rel) -> bool
 }
 
 fn takes_register(p: PatReg, r: Reg, slots: &mut [Option<Operand>]) -> bool
-    ensures { outcome result slots.new ≡ taken_if (register_found places p (Some r)) slots.old }
+    ensures { outcome result slots.new ≡ taken_if (register_found code_leaves p (Some r)) slots.old }
 {
     match p {
         PatReg::Any(k) => takes(slots, k, None, Operand::Reg(r)),
@@ -44,7 +45,7 @@ fn takes_register(p: PatReg, r: Reg, slots: &mut [Option<Operand>]) -> bool
 
 #[tactic(auto, using(crate::proofs::Walks::walked, crate::proofs::Walks::stopped))]
 fn takes_term(p: &PatTerm, t: &Term, slots: &mut [Option<Operand>]) -> bool
-    ensures { outcome result slots.new ≡ taken_if (tree_found places (pattern_of p.now) (tree_of t.now)) slots.old }
+    ensures { outcome result slots.new ≡ taken_if (tree_found code_leaves (pattern_of p.now) (tree_of t.now)) slots.old }
 {
     match (p, t) {
         (PatTerm::Reg(p), Term::Reg(r)) => takes_register(*p, *r, slots),
@@ -65,7 +66,7 @@ fn takes_term(p: &PatTerm, t: &Term, slots: &mut [Option<Operand>]) -> bool
 
 #[tactic(auto, using(crate::proofs::Walks::walked, crate::proofs::Walks::stopped))]
 fn takes_two(p: &PatTerm, q: &PatTerm, t: &Term, u: &Term, slots: &mut [Option<Operand>]) -> bool
-    ensures { outcome result slots.new ≡ taken_if (both (tree_found places (pattern_of p.now) (tree_of t.now)) (tree_found places (pattern_of q.now) (tree_of u.now))) slots.old }
+    ensures { outcome result slots.new ≡ taken_if (both (tree_found code_leaves (pattern_of p.now) (tree_of t.now)) (tree_found code_leaves (pattern_of q.now) (tree_of u.now))) slots.old }
 {
     takes_term(p, t, slots) && takes_term(q, u, slots)
 }
@@ -80,7 +81,7 @@ fn takes_branch(
     l: Label,
     slots: &mut [Option<Operand>],
 ) -> bool
-    ensures { outcome result slots.new ≡ taken_if (move_found places (pat.branch_of p.now r k) (Ends (branch_of c.now s l))) slots.old }
+    ensures { outcome result slots.new ≡ taken_if (move_found code_leaves (pat.branch_of p.now r k) (Ends (branch_of c.now s l))) slots.old }
 {
     if !same_rel(r, s) {
         return false;
@@ -96,7 +97,7 @@ fn takes_branch(
 
 #[tactic(auto, using(crate::proofs::Walks::walked, crate::proofs::Walks::stopped))]
 fn takes_move(p: &PatTransfer, x: &Transfer, slots: &mut [Option<Operand>]) -> bool
-    ensures { outcome result slots.new ≡ taken_if (move_found places (pat_move_of p.now) (move_of x.now)) slots.old }
+    ensures { outcome result slots.new ≡ taken_if (move_found code_leaves (pat_move_of p.now) (move_of x.now)) slots.old }
 {
     match (p, x) {
         (PatTransfer::Set(p, q), Transfer::Set(r, t)) => {
@@ -121,7 +122,7 @@ pub(crate) fn takes_moves(
     xs: &[Transfer],
     slots: &mut [Option<Operand>],
 ) -> bool
-    ensures { outcome result slots.new ≡ taken_if (moves_found places (pat_moves_of ps.now) (moves_of xs.now)) slots.old }
+    ensures { outcome result slots.new ≡ taken_if (moves_found code_leaves (pat_moves_of ps.now) (moves_of xs.now)) slots.old }
 {
     match ps {
         [] => xs.is_empty(),

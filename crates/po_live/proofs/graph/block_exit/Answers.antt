@@ -2,9 +2,9 @@ use Rattle.std.proofs.Common.{List, ◌≡◌, ℕ, suc, ◌-◌, ◌∙◌, ap,
 use Rattle.po_term.specs.declared.transfer.Transfer.{Transfer}
 use Rattle.po_term.specs.declared.transfer.Instr.{Instr}
 use Rattle.po_term.specs.Moves.{moves_of, instr_of}
-use Rattle.po_model.specs.Blocks.{ending_of}
 use Rattle.po_live.specs.Flow.{exit_by}
 use Rattle.po_live.proofs.Preds.{ending_last}
+use Rattle.po_model.specs.Parts.{ending_of}
 use Rattle.po_live.proofs.graph.block_exit.Goals as goal
 
 pub returns-in-len1-up : goal.returns-in-len1-up

@@ -1,0 +1,154 @@
+//! The head of a list of transfers, which an index keeps of each entry: where two heads differ, the entry doesn't fit.
+ghost use Rattle.std.specs.Prelude.{◌≡◌, Bool, false};
+ghost use Rattle.po_term.specs.Terms.{tree_of};
+ghost use Rattle.po_term.specs.Moves.{move_of, moves_of};
+ghost use Rattle.po_model.specs.Patterns.{pattern_of, pat_move_of, pat_moves_of};
+ghost use Rattle.po_recog.specs.Heads.{term_outer, term_inner, pattern_outer, pattern_inner};
+ghost use Rattle.po_recog.specs.Heads.{move_head, pat_move_head, moves_head, pat_moves_head};
+
+use po_model::{PatCond, PatTerm, PatTransfer};
+use po_term::{Cond, Term, Transfer};
+use po_word::{Bin, Rel, Un};
+
+/// The outermost form of a term.
+#[derive(Clone, Copy, Debug, PartialEq, Eq)]
+pub(crate) enum Form {
+    Num,
+    Reg,
+    Addr,
+    Mem,
+    Un(Un),
+    Bin(Bin),
+}
+
+/// What a list of transfers is told by: the kind of its one transfer, with the forms of its two terms. What a register is
+/// set to has its own form, and that of what is read or of a second operand.
+#[derive(Clone, Copy, Debug, PartialEq, Eq)]
+pub(crate) enum Head {
+    Nothing,
+    Several,
+    Set(Form, Form),
+    Cc(Form, Form),
+    Store(Form, Form),
+    Goto,
+    IfCc(Rel),
+    IfTwo(Form, Form),
+    Call,
+    Ret,
+}
+
+/// Whether two heads are the same.
+pub(crate) fn is_same(a: Head, b: Head) -> bool
+    ensures { result ≡ false → a ≡ b → ⊥ }
+{
+    a == b
+}
+
+fn outer(t: &Term) -> Form
+    ensures { result ≡ term_outer (tree_of t.now) }
+{
+    match t {
+        Term::Num(_) => Form::Num,
+        Term::Reg(_) => Form::Reg,
+        Term::Addr(_) => Form::Addr,
+        Term::Mem(_) => Form::Mem,
+        Term::Un(o, _) => Form::Un(*o),
+        Term::Bin(o, _, _) => Form::Bin(*o),
+    }
+}
+
+fn inner(t: &Term) -> Form
+    ensures { result ≡ term_inner (tree_of t.now) }
+{
+    match t {
+        Term::Num(_) => Form::Num,
+        Term::Reg(_) => Form::Reg,
+        Term::Addr(_) => Form::Addr,
+        Term::Mem(t) => outer(t),
+        Term::Un(o, _) => Form::Un(*o),
+        Term::Bin(_, _, u) => outer(u),
+    }
+}
+
+fn pattern_outer(p: &PatTerm) -> Form
+    ensures { result ≡ pattern_outer (pattern_of p.now) }
+{
+    match p {
+        PatTerm::Num(_) => Form::Num,
+        PatTerm::Const(_, _) => Form::Num,
+        PatTerm::Reg(_) => Form::Reg,
+        PatTerm::Addr(_) => Form::Addr,
+        PatTerm::Mem(_) => Form::Mem,
+        PatTerm::Un(o, _) => Form::Un(*o),
+        PatTerm::Bin(o, _, _) => Form::Bin(*o),
+    }
+}
+
+fn pattern_inner(p: &PatTerm) -> Form
+    ensures { result ≡ pattern_inner (pattern_of p.now) }
+{
+    match p {
+        PatTerm::Num(_) => Form::Num,
+        PatTerm::Const(_, _) => Form::Num,
+        PatTerm::Reg(_) => Form::Reg,
+        PatTerm::Addr(_) => Form::Addr,
+        PatTerm::Mem(p) => pattern_outer(p.get()),
+        PatTerm::Un(o, _) => Form::Un(*o),
+        PatTerm::Bin(_, _, q) => pattern_outer(q.get()),
+    }
+}
+
+fn transfer_head(x: &Transfer) -> Head
+    ensures { result ≡ move_head (move_of x.now) }
+{
+    match x {
+        Transfer::Set(_, t) => Head::Set(outer(t), inner(t)),
+        Transfer::Cc(t, u) => Head::Cc(outer(t), outer(u)),
+        Transfer::Store(t, u) => Head::Store(outer(t), outer(u)),
+        Transfer::Goto(_) => Head::Goto,
+        Transfer::If(Cond::Cc, r, _) => Head::IfCc(*r),
+        Transfer::If(Cond::Two(t, u), _, _) => Head::IfTwo(outer(t), outer(u)),
+        Transfer::Call(_, _) => Head::Call,
+        Transfer::Ret => Head::Ret,
+    }
+}
+
+fn pattern_head(p: &PatTransfer) -> Head
+    ensures { result ≡ pat_move_head (pat_move_of p.now) }
+{
+    match p {
+        PatTransfer::Set(_, p) => Head::Set(pattern_outer(p), pattern_inner(p)),
+        PatTransfer::Cc(p, q) => Head::Cc(pattern_outer(p), pattern_outer(q)),
+        PatTransfer::Store(p, q) => Head::Store(pattern_outer(p), pattern_outer(q)),
+        PatTransfer::Goto(_) => Head::Goto,
+        PatTransfer::If(PatCond::Cc, r, _) => Head::IfCc(*r),
+        PatTransfer::If(PatCond::Two(p, q), _, _) => Head::IfTwo(
+            pattern_outer(p),
+            pattern_outer(q),
+        ),
+        PatTransfer::Call(_) => Head::Call,
+        PatTransfer::Ret => Head::Ret,
+    }
+}
+
+/// The head of a list of transfers.
+pub(crate) fn head_of(xs: &[Transfer]) -> Head
+    ensures { result ≡ moves_head (moves_of xs.now) }
+{
+    match xs {
+        [] => Head::Nothing,
+        [x] => transfer_head(x),
+        _ => Head::Several,
+    }
+}
+
+/// The head of a pattern.
+pub(crate) fn head_of_pattern(ps: &[PatTransfer]) -> Head
+    ensures { result ≡ pat_moves_head (pat_moves_of ps.now) }
+{
+    match ps {
+        [] => Head::Nothing,
+        [p] => pattern_head(p),
+        _ => Head::Several,
+    }
+}

@@ -1,0 +1,132 @@
+//! An index of a machine's entries: the head of each, made once, so that an entry with another head is passed over without a
+//! look at its pattern. Entries are still tried in order.
+ghost use Rattle.std.specs.Prelude.{◌≡◌, ◌<◌, ◌^◌, ◌++◌, ◌∷◌, [], length, map, IfOk, OnOk, is_some};
+ghost use Rattle.std.specs.Option.{option_map};
+ghost use Rattle.po_term.specs.Moves.{moves_of};
+ghost use Rattle.po_term.specs.Kinds.{words};
+ghost use Rattle.po_model.specs.Fit.{entry_fit, first_fit, fit};
+ghost use Rattle.po_model.specs.Parts.{code_leaves};
+ghost use Rattle.po_recog.specs.Operands.{operands_in, fit_from, fit_of};
+ghost use Rattle.po_recog.specs.Taken.{outcome};
+ghost use Rattle.po_recog.specs.Heads.{entry_head, moves_head};
+ghost use Rattle.po_recog.specs.Indexes.{IsIndexOf, found_with};
+
+use crate::head::{Head, head_of, head_of_pattern, is_same};
+use crate::walk::takes_moves;
+use crate::{Fit, Operand};
+use po_model::{Entry, Machine};
+use po_term::Transfer;
+use po_word::{OutOfMemory, push};
+use std::alloc::Global;
+
+/// The heads of a machine's entries (docs/DESCRIPTION.md, "What fits").
+#[derive(Drop)]
+pub struct Index {
+    heads: Vec<Head>,
+}
+
+fn heads_of(alloc: Global, entries: &[Entry]) -> Result<Vec<Head>, OutOfMemory>
+    ensures { IfOk result (λ heads. heads.items ≡ map entry_head entries.now) }
+{
+    let mut heads = Vec::new(alloc);
+    for e in entries {
+        push(&mut heads, head_of_pattern(e.pattern.as_slice()))?;
+    }
+    Ok(heads)
+}
+
+impl Index {
+    /// The index of a machine's entries (docs/DESCRIPTION.md, "What fits").
+    pub fn new(alloc: Global, m: &Machine) -> Result<Index, OutOfMemory>
+        ensures { IfOk result (λ index. IsIndexOf m.now index) }
+    {
+        let heads = heads_of(alloc, m.entries.as_slice())?;
+        Ok(Index { heads })
+    }
+}
+
+/// Fills the ten operands of an entry, where it fits. An entry that clobbers `cc` fits only where `cc` is dead.
+#[tactic(auto, using(crate::proofs::Agreed::entry_filled))]
+fn fills(e: &Entry, xs: &[Transfer], cc_live: bool, slots: &mut [Option<Operand>; 10]) -> bool
+    ensures { outcome result slots.new
+        ≡ option_map operands_in (entry_fit code_leaves words cc_live e.now (moves_of xs.now)).got }
+{
+    if e.clobbers && cc_live {
+        return false;
+    }
+    *slots = [None; 10];
+    takes_moves(e.pattern.as_slice(), xs, slots)
+}
+
+/// The same as `fills`, where the entry has the head h and the list the head g.
+fn fills_by(
+    e: &Entry,
+    h: Head,
+    g: Head,
+    xs: &[Transfer],
+    cc_live: bool,
+    slots: &mut [Option<Operand>; 10],
+) -> bool
+    requires entry { h ≡ entry_head e.now }
+    requires list { g ≡ moves_head (moves_of xs.now) }
+    ensures { outcome result slots.new
+        ≡ option_map operands_in (entry_fit code_leaves words cc_live e.now (moves_of xs.now)).got }
+{
+    is_same(h, g) && fills(e, xs, cc_live, slots)
+}
+
+/// The number of the first entry that fits, with its operands in the slots.
+fn first_by(
+    entries: &[Entry],
+    heads: &[Head],
+    xs: &[Transfer],
+    cc_live: bool,
+    slots: &mut [Option<Operand>; 10],
+) -> Option<u32>
+    requires few { length entries.now < 2 ^ 32 }
+    requires heads { heads.now ≡ map entry_head entries.now }
+    ensures { found_with result slots.new
+        ≡ option_map fit_from (first_fit code_leaves words cc_live entries.now 0 (moves_of xs.now)).got }
+{
+    let head = head_of(xs);
+    let mut number = 0;
+    for e in entries {
+        if fills_by(e, heads[number as usize], head, xs, cc_live, slots) {
+            return Some(number);
+        }
+        number += 1;
+    }
+    None
+}
+
+/// `recognise` by an index of the machine (docs/DESCRIPTION.md, "What fits").
+pub fn recognise_by(
+    alloc: Global,
+    m: &Machine,
+    index: &Index,
+    xs: &[Transfer],
+    cc_live: bool,
+) -> Result<Option<Fit>, OutOfMemory>
+    requires few { length m.now.entries < 2 ^ 32 }
+    requires index { IsIndexOf m.now index.now }
+    ensures { IfOk result (λ found. option_map fit_of found ≡ option_map fit_from (fit m.now cc_live (moves_of xs.now))) }
+{
+    let mut slots = [None; 10];
+    match first_by(m.entries.as_slice(), &index.heads, xs, cc_live, &mut slots) {
+        None => Ok(None),
+        Some(entry) => {
+            let operands = Vec::from_slice(alloc, &slots)?;
+            Ok(Some(Fit { entry, operands }))
+        }
+    }
+}
+
+/// `is_recognised` by an index of the machine (docs/DESCRIPTION.md, "What fits").
+pub fn is_recognised_by(m: &Machine, index: &Index, xs: &[Transfer], cc_live: bool) -> bool
+    requires few { length m.now.entries < 2 ^ 32 }
+    requires index { IsIndexOf m.now index.now }
+    ensures { result ≡ is_some (fit m.now cc_live (moves_of xs.now)) }
+{
+    let mut slots = [None; 10];
+    first_by(m.entries.as_slice(), &index.heads, xs, cc_live, &mut slots).is_some()
+}
