@@ -25,11 +25,13 @@ use Rattle.po_term.specs.declared.term.Reg.{Reg}
 use Rattle.po_term.specs.declared.term.Reg.TheVariants.{Virt, Fp, Rv, Arg}
 use Rattle.po_termtext.specs.TermText.{const_text, reg_text}
 use Rattle.po_termtext.proofs.Numbers.{decimal_digits, decimal_some}
+use Rattle.po_model.specs.declared.machine.Bounds.{Bounds}
 use Rattle.po_model.specs.declared.machine.PatReg.TheVariants.{Any, Fixed}
 use Rattle.po_model.specs.declared.machine.PatTerm.TheVariants as pat
-use Rattle.po_model.specs.Entries.{OfReg, OfNum, OfSym, place, has_range, IsFixed, IsRange, HasRange}
+use Rattle.po_model.specs.Entries.{OfReg, OfNum, OfSym, place, has_range, IsRange, HasRange}
 use Rattle.po_entry.specs.EntryText.{range_text}
 use Rattle.po_entry.proofs.Noted.{MayStand}
+use Rattle.po_term.specs.Form.{IsFixed}
 
 abbrev pub at : ℕ → List ℕ → Rest
 at column bytes = record { column = column; bytes = bytes }
@@ -190,8 +192,11 @@ le_from a b h = grind (arith, ints)
 pub le_through : (a b c : ℤ) → a ≤ℤ b → b ≤ℤ c → a ≤ℤ c
 le_through a b c h g = omega (arith, ints)
 
-range_again : (low high : ℤ) (c : ℕ) (rest : List ℕ) (seen : Operands) → IsRange low high
-    → Again (parts.range (at c (91 ∷ (signed_decimal low ++ 44 ∷ (signed_decimal high ++ 93 ∷ rest)))) seen) (Some (low, high)) rest seen
+abbrev bounds : ℤ → ℤ → Bounds
+bounds low high = record { lo = low; hi = high }
+
+range_again : (low high : ℤ) (c : ℕ) (rest : List ℕ) (seen : Operands) → IsRange (bounds low high)
+    → Again (parts.range (at c (91 ∷ (signed_decimal low ++ 44 ∷ (signed_decimal high ++ 93 ∷ rest)))) seen) (Some (bounds low high)) rest seen
 unfolding parts.range
 range_again low high c rest seen h =
     let from : negsuc 2147483647 ≤ℤ low = le_from (negsuc 2147483647) low h.from in
@@ -215,18 +220,18 @@ range_again low high c rest seen h =
     record { column = two.column + 0 + 1; is = rw (opened, a, first, b, comma, d, second, ordered, e, close) refl }
 
 -- the range behind an operand
-range_behind_again : (range : Option (ℤ × ℤ)) (new : Bool) (column c : ℕ) (rest : List ℕ) (seen : Operands) → HasRange range → (has_range range ≡ true → new ≡ true) → Stops rest
+range_behind_again : (range : Option Bounds) (new : Bool) (column c : ℕ) (rest : List ℕ) (seen : Operands) → HasRange range → (has_range range ≡ true → new ≡ true) → Stops rest
     → Again (parts.range_behind column new (at c (range_text range ++ rest)) seen) range rest seen
 unfolding parts.range_behind skip_blanks
 range_behind_again None new column c rest seen h n stops = let plain = stops.plain in record { column = c; is = rw plain refl }
 range_behind_again (Some ends) new column c rest seen h n stops =
-    let got = range_again ends.0 ends.1 (c + 0) rest seen h in
+    let got = range_again ends.lo ends.hi (c + 0) rest seen h in
     let is = got.is in
     let yes : new ≡ true = n refl in
-    let bytes : range_text (Some ends) ++ rest ≡ 91 ∷ (signed_decimal ends.0 ++ 44 ∷ (signed_decimal ends.1 ++ 93 ∷ rest)) = simp append_assoc in
+    let bytes : range_text (Some ends) ++ rest ≡ 91 ∷ (signed_decimal ends.lo ++ 44 ∷ (signed_decimal ends.hi ++ 93 ∷ rest)) = simp append_assoc in
     record { column = got.column; is = rw (bytes, yes) (rw is refl) }
 
-pub constant_again : (k : ℕ) (range : Option (ℤ × ℤ)) (c : ℕ) (rest : List ℕ) (seen : Operands) → k < 10 → HasRange range → MayStand seen (place k OfNum (has_range range)) → Stops rest
+pub constant_again : (k : ℕ) (range : Option Bounds) (c : ℕ) (rest : List ℕ) (seen : Operands) → k < 10 → HasRange range → MayStand seen (place k OfNum (has_range range)) → Stops rest
     → Again (parts.constant (at c (35 ∷ (48 + k) ∷ (range_text range ++ rest))) seen) (pat.Const k range) rest (with_operand seen Constant k)
 unfolding parts.constant
 constant_again k range c rest seen h r may stops =

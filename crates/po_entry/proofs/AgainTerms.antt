@@ -21,7 +21,7 @@ use Rattle.po_model.specs.declared.machine.PatReg.TheVariants.{Any, Fixed}
 use Rattle.po_model.specs.declared.machine.PatTerm.{PatTerm}
 use Rattle.po_model.specs.declared.machine.PatTerm.TheVariants as pat
 use Rattle.po_model.specs.Patterns.{PatTree, PatConst, Exactly, Operand, PatLeaf, InPatReg, AtSymbol}
-use Rattle.po_model.specs.Entries.{IsFixed, IsPatConst, IsPatLeaf, IsPatTree, const_places, leaf_places, tree_places}
+use Rattle.po_model.specs.Entries.{IsPatConst, IsPatLeaf, IsPatTree, const_places, leaf_places, tree_places}
 use Rattle.po_pattern.specs.declared.operands.Operands.{Operands}
 use Rattle.po_pattern.specs.declared.operands.OperandKind.TheVariants.{Register, Constant, Symbol}
 use Rattle.po_pattern.specs.declared.part.Part.{Part}
@@ -39,6 +39,7 @@ use Rattle.po_entry.specs.EntryText.{range_text, pat_const_text, pat_leaf_text, 
 use Rattle.po_entry.proofs.Noted.{noted, Fits, noted_more, fits_front, fits_back}
 use Rattle.po_entry.proofs.Backs.{back}
 use Rattle.po_entry.proofs.AgainParts.{at, Again, prefix_again, skip_none, skip_one, mark_again, Stops, NumberFront, signed_front, numeral_again, constant_again, symbol_again, any_again, fixed_again, fixed_name}
+use Rattle.po_term.specs.Form.{IsFixed}
 
 -- so many steps lead from one state to another
 pub record Reaches (s t : Reading) (n : ℕ) : Type 0 where

@@ -1,9 +1,10 @@
 -- The plain tree of a pattern's term, by its outermost part.
-use Rattle.std.proofs.Common.{◌≡◌, ℕ, Option, ℤ}
+use Rattle.std.proofs.Common.{◌≡◌, ℕ, Option}
 use Rattle.po_word.specs.declared.operator.Un.{Un}
 use Rattle.po_word.specs.declared.operator.Bin.{Bin}
 use Rattle.po_term.specs.Tree.{Const, Leaf, Read, Unary, Binary}
 use denote.Hole.Carrier.{roll}
+use Rattle.po_model.specs.declared.machine.Bounds.{Bounds}
 use Rattle.po_model.specs.declared.machine.PatReg.{PatReg}
 use Rattle.po_model.specs.declared.machine.PatTerm.{PatTerm, roll-PatTerm}
 use Rattle.po_model.specs.declared.machine.PatTerm.TheVariants as pat
@@ -19,7 +20,7 @@ pub num_tree : (n : ℕ) → pattern_of (pat.Num n) ≡ Const (Exactly n)
 unfolding roll-PatTerm roll
 num_tree n = fold-roll-PatTerm PatTree layer_of (PatTerm-F.Num n)
 
-pub const_tree : (k : ℕ) (range : Option (ℤ × ℤ)) → pattern_of (pat.Const k range) ≡ Const (Operand k range)
+pub const_tree : (k : ℕ) (range : Option Bounds) → pattern_of (pat.Const k range) ≡ Const (Operand k range)
 unfolding roll-PatTerm roll
 const_tree k range = fold-roll-PatTerm PatTree layer_of (PatTerm-F.Const k range)
 

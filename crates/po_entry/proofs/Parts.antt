@@ -17,18 +17,20 @@ use Rattle.po_pattern.specs.declared.operands.OperandKind.TheVariants.{Register,
 use Rattle.po_pattern.specs.Rests.{Rest, Read, skip_blanks, begins, mark}
 use Rattle.po_pattern.specs.Seen.{kind_of, is_new}
 use Rattle.po_pattern.specs.Parts.{operand, number, in_order, range, range_behind, any_register, constant, symbol_address, numeral, name_here, fixed_of, fixed_with, fixed_register, register}
+use Rattle.po_model.specs.declared.machine.Bounds.{Bounds}
 use Rattle.po_model.specs.declared.machine.PatReg.{PatReg}
 use Rattle.po_model.specs.declared.machine.PatTerm.{PatTerm}
 use Rattle.po_model.specs.declared.machine.PatTerm.TheVariants as pat
 use Rattle.po_model.specs.Patterns.{PatTree, pattern_of}
-use Rattle.po_model.specs.Entries.{Place, place, OfNum, HasRange, has_range, IsFixed, IsPatReg, reg_places, tree_places, HasPatNumbers}
+use Rattle.po_model.specs.Entries.{Place, place, OfNum, HasRange, has_range, IsPatReg, reg_places, tree_places, HasPatNumbers}
 use Rattle.po_entry.proofs.Layers.{reg_tree, num_tree, const_tree, addr_tree}
 use Rattle.po_entry.proofs.Told.{Tells, told_more}
 use Rattle.po_entry.proofs.Leaves.{Came, not_longer, mark_shorter, operand_took, operand_came, number_took}
+use Rattle.po_term.specs.Form.{IsFixed}
 
 -- a range
 
-pub record TookRange (fresh : Bool) (r : Rest) (seen : Operands) (x : Read (Option (ℤ × ℤ))) : Type 0 where
+pub record TookRange (fresh : Bool) (r : Rest) (seen : Operands) (x : Read (Option Bounds)) : Type 0 where
   pub fine : HasRange x.value
   pub new : has_range x.value ≡ true → fresh ≡ true
   pub noted : x.seen ≡ seen
@@ -37,7 +39,7 @@ pub record TookRange (fresh : Bool) (r : Rest) (seen : Operands) (x : Read (Opti
 ordered : (column : ℕ) (low high : ℤ) (x : ⊤) → in_order column low high ≡ Ok x → int_le low high ≡ true
 ordered column low high x e = elim (chosen (int_le low high) _ _ _ e) [ inl (h, is) ↦ h | inr (h, is) ↦ absurd (not_ok is) ]
 
-range_took : (r : Rest) (seen : Operands) (x : Read (Option (ℤ × ℤ))) → range r seen ≡ Ok x → TookRange true r seen x
+range_took : (r : Rest) (seen : Operands) (x : Read (Option Bounds)) → range r seen ≡ Ok x → TookRange true r seen x
 unfolding range
 range_took r seen x e =
     let p = bind_ok (mark 91 r) _ x e in
@@ -48,25 +50,25 @@ range_took r seen x e =
     let v = bind_ok (mark 93 (skip_blanks t.0.rest)) _ x u.2 in
     let low = number_took (skip_blanks p.0) seen q.0 q.1 in
     let high = number_took (skip_blanks s.0) seen t.0 t.1 in
-    subst (λ (y : Read (Option (ℤ × ℤ))). TookRange true r seen y) (ok_is v.2) (record {
+    subst (λ (y : Read (Option Bounds)). TookRange true r seen y) (ok_is v.2) (record {
       fine = record { from = low.low; order = ordered r.column q.0.value t.0.value u.0 u.1; to = high.high };
       new = λ h. refl;
       noted = refl;
       short = omega (arith, mark_shorter 91 r p.0 p.1, not_longer p.0, low.shorter, not_longer q.0.rest, mark_shorter 44 (skip_blanks q.0.rest) s.0 s.1, not_longer s.0, high.shorter, not_longer t.0.rest, mark_shorter 93 (skip_blanks t.0.rest) v.0 v.1);
     })
 
-range_if_new : (column : ℕ) (new : Bool) (r : Rest) (seen : Operands) (x : Read (Option (ℤ × ℤ))) → cond new (range r seen) (Err (fault column kind.ListForm)) ≡ Ok x → TookRange new r seen x
+range_if_new : (column : ℕ) (new : Bool) (r : Rest) (seen : Operands) (x : Read (Option Bounds)) → cond new (range r seen) (Err (fault column kind.ListForm)) ≡ Ok x → TookRange new r seen x
 range_if_new column true r seen x e = range_took r seen x e
 range_if_new column false r seen x e = absurd (not_ok e)
 
-wider : (new : Bool) (r : Rest) (seen : Operands) (x : Read (Option (ℤ × ℤ))) → TookRange new (skip_blanks r) seen x → TookRange new r seen x
+wider : (new : Bool) (r : Rest) (seen : Operands) (x : Read (Option Bounds)) → TookRange new (skip_blanks r) seen x → TookRange new r seen x
 wider new r seen x h = record { fine = h.fine; new = h.new; noted = h.noted; short = omega (arith, h.short, not_longer r) }
 
-pub range_behind_took : (column : ℕ) (new : Bool) (r : Rest) (seen : Operands) (x : Read (Option (ℤ × ℤ))) → range_behind column new r seen ≡ Ok x → TookRange new r seen x
+pub range_behind_took : (column : ℕ) (new : Bool) (r : Rest) (seen : Operands) (x : Read (Option Bounds)) → range_behind column new r seen ≡ Ok x → TookRange new r seen x
 unfolding range_behind
 range_behind_took column new r seen x e = elim (chosen (begins 91 (skip_blanks r).bytes) _ _ _ e) [
   | inl (h, is) ↦ wider new r seen x (range_if_new column new (skip_blanks r) seen x is)
-  | inr (h, is) ↦ subst (λ (y : Read (Option (ℤ × ℤ))). TookRange new r seen y) (ok_is is) (record { fine = tt; new = λ g. absurd (cc); noted = refl; short = omega arith })
+  | inr (h, is) ↦ subst (λ (y : Read (Option Bounds)). TookRange new r seen y) (ok_is is) (record { fine = tt; new = λ g. absurd (cc); noted = refl; short = omega arith })
 ]
 
 -- a term without terms of its own

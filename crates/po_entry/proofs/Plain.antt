@@ -18,6 +18,7 @@ use Rattle.po_term.specs.declared.term.Reg.TheVariants.{Virt, Fp, Rv, Arg}
 use Rattle.po_term.specs.Tree as tree
 use Rattle.po_termtext.specs.TermText.{un_text, bin_text, rel_text}
 use Rattle.po_termtext.proofs.Numbers.{decimal_digits}
+use Rattle.po_model.specs.declared.machine.Bounds.{Bounds}
 use Rattle.po_model.specs.declared.machine.PatReg.{PatReg}
 use Rattle.po_model.specs.declared.machine.PatReg.TheVariants.{Any, Fixed}
 use Rattle.po_model.specs.declared.machine.Piece.{Piece}
@@ -69,16 +70,16 @@ reg_plain (Fixed Fp) h = refl
 reg_plain (Fixed Rv) h = refl
 reg_plain (Fixed (Arg n)) h = more (codes "arg") (decimal n) refl (decimal_plain n (omega (arith, h)))
 
-range_plain : (range : Option (ℤ × ℤ)) → HasRange range → plain (range_text range) ≡ true
+range_plain : (range : Option Bounds) → HasRange range → plain (range_text range) ≡ true
 range_plain None h = refl
-range_plain (Some r) h =
-    let from : negsuc 2147483647 ≤ℤ r.0 = le_from (negsuc 2147483647) r.0 h.from in
-    let order : r.0 ≤ℤ r.1 = le_from r.0 r.1 h.order in
-    let to : r.1 ≤ℤ pos 2147483647 = le_from r.1 (pos 2147483647) h.to in
-    let low = signed_plain r.0 (record { low = from; high = le_through r.0 r.1 (pos 2147483647) order to }) in
-    let high = signed_plain r.1 (record { low = le_through (negsuc 2147483647) r.0 r.1 from order; high = to }) in
-    more (codes "[" ++ signed_decimal r.0 ++ codes "," ++ signed_decimal r.1) (codes "]")
-    (more (codes "[" ++ signed_decimal r.0 ++ codes ",") (signed_decimal r.1) (more (codes "[" ++ signed_decimal r.0) (codes ",") (more (codes "[") (signed_decimal r.0) refl low) refl) high) refl
+range_plain (Some b) h =
+    let from : negsuc 2147483647 ≤ℤ b.lo = le_from (negsuc 2147483647) b.lo h.from in
+    let order : b.lo ≤ℤ b.hi = le_from b.lo b.hi h.order in
+    let to : b.hi ≤ℤ pos 2147483647 = le_from b.hi (pos 2147483647) h.to in
+    let low = signed_plain b.lo (record { low = from; high = le_through b.lo b.hi (pos 2147483647) order to }) in
+    let high = signed_plain b.hi (record { low = le_through (negsuc 2147483647) b.lo b.hi from order; high = to }) in
+    more (codes "[" ++ signed_decimal b.lo ++ codes "," ++ signed_decimal b.hi) (codes "]")
+    (more (codes "[" ++ signed_decimal b.lo ++ codes ",") (signed_decimal b.hi) (more (codes "[" ++ signed_decimal b.lo) (codes ",") (more (codes "[") (signed_decimal b.lo) refl low) refl) high) refl
 
 const_plain : (x : PatConst) → IsPatConst x → plain (pat_const_text x) ≡ true
 const_plain (Exactly n) h = signed_plain (signed n) (word_signed n h)

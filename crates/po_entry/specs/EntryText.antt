@@ -1,9 +1,10 @@
 -- The printed text of entries. Terms are printed as those of code are, with operands in place of what they stand for.
-use Rattle.std.specs.Prelude.{ℕ, ℤ, List, [], ◌∷◌, ◌++◌, map, codes, Bool, true, false, ◌==◌, ◌||◌, if◌then◌else◌, Option, Some, None}
+use Rattle.std.specs.Prelude.{ℕ, List, [], ◌∷◌, ◌++◌, map, codes, Bool, true, false, ◌==◌, ◌||◌, if◌then◌else◌, Option, Some, None}
 use Rattle.std.specs.List.{flat_map}
 use Rattle.std.specs.Fmt.{decimal, signed_decimal}
 use Rattle.po_term.specs.Tree.{Const, Leaf, Read, Unary, Binary}
 use Rattle.po_termtext.specs.TermText.{const_text, reg_text, un_text, bin_text, rel_text, joined}
+use Rattle.po_model.specs.declared.machine.Bounds.{Bounds}
 use Rattle.po_model.specs.declared.machine.PatReg.{PatReg}
 use Rattle.po_model.specs.declared.machine.PatReg.TheVariants as register
 use Rattle.po_model.specs.declared.machine.Piece.{Piece}
@@ -19,9 +20,9 @@ abbrev pub pat_reg_text : PatReg → List ℕ
 pat_reg_text (register.Any k) = operand_text (codes "%") k
 pat_reg_text (register.Fixed r) = reg_text r
 
-abbrev pub range_text : Option (ℤ × ℤ) → List ℕ
+abbrev pub range_text : Option Bounds → List ℕ
 range_text None = []
-range_text (Some r) = codes "[" ++ signed_decimal r.0 ++ codes "," ++ signed_decimal r.1 ++ codes "]"
+range_text (Some b) = codes "[" ++ signed_decimal b.lo ++ codes "," ++ signed_decimal b.hi ++ codes "]"
 
 abbrev pub pat_const_text : PatConst → List ℕ
 pat_const_text (Exactly n) = const_text n

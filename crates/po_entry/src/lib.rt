@@ -4,6 +4,8 @@
 //! Reading goes from left to right: `words` has keywords and the ends of words, `transfer` one transfer, `list` the list of
 //! them and what each decides behind those before it, `template` the bytes behind `=>`, `read` the whole line. `print`
 //! writes an entry.
+//!
+//! Its tests stand in `po_input_rows`.
 #![tactic(auto)]
 
 mod begun;
@@ -13,8 +15,6 @@ mod pair;
 mod print;
 mod read;
 mod template;
-#[cfg(test)]
-mod tests;
 mod transfer;
 mod words;
 

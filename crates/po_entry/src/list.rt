@@ -34,11 +34,7 @@ fn order_of(transfer: &PatTransfer) -> u8
 fn same_register(r: PatReg, s: PatReg) -> bool
     ensures { result ≡ rules.same_register r s }
 {
-    match (r, s) {
-        (PatReg::Any(k), PatReg::Any(l)) => k == l,
-        (PatReg::Fixed(r), PatReg::Fixed(s)) => r == s,
-        _ => false,
-    }
+    r == s
 }
 
 /// Whether a transfer sets this register.

@@ -8,9 +8,9 @@ ghost use Rattle.po_model.specs.Patterns.{pattern_of, branch_of, pat_move_of, pa
 ghost use Rattle.po_entry.specs.EntryText.{operand_text, pat_reg_text, range_text, pat_term_text, pat_move_text, pattern_text, is_mark as is_mark_byte, piece_text, byte_text, template_text, entry_text};
 
 use itoa::Buffer;
-use po_model::{Entry, PatCond, PatReg, PatTerm, PatTransfer, Piece};
-use po_term::Reg;
-use po_word::{Bin, OutOfMemory, Rel, Un};
+use po_model::{Bounds, Entry, PatCond, PatReg, PatTerm, PatTransfer, Piece};
+use po_termtext::{push, push_bin, push_constant, push_reg as push_fixed, push_rel, push_un};
+use po_word::{OutOfMemory, Rel};
 use std::alloc::Global;
 
 /// Adds the line of an entry, without its line feed, at the end of `out` (docs/DESCRIPTION.md, "Entries"). Only memory can
@@ -20,7 +20,8 @@ pub fn print_entry(alloc: Global, e: &Entry, out: &mut Vec<u8>) -> Result<(), Ou
     ensures kept { OnErr result (out.new.items ≡ out.old.items) }
 {
     let text = entry_line(alloc, e)?;
-    push(out, text.as_slice())
+    out.extend_from_slice(text.as_slice())?;
+    Ok(())
 }
 
 /// The line of an entry.
@@ -63,26 +64,11 @@ fn push_others(out: &mut Vec<u8>, others: &[PatTransfer]) -> Result<(), OutOfMem
     Ok(())
 }
 
-fn push(out: &mut Vec<u8>, text: &[u8]) -> Result<(), OutOfMemory>
-    ensures ok { OnOk result (out.new.items ≡ out.old.items ++ text.now) }
-    ensures err { OnErr result (out.new.items ≡ out.old.items) }
-{
-    out.extend_from_slice(text)?;
-    Ok(())
-}
-
 /// A number by its signed view.
 fn push_signed(out: &mut Vec<u8>, n: i32) -> Result<(), OutOfMemory>
     ensures { OnOk result (out.new.items ≡ out.old.items ++ signed_decimal n) }
 {
     push(out, Buffer::new().format(n).as_bytes())
-}
-
-/// A constant is printed by its signed view.
-fn push_constant(out: &mut Vec<u8>, c: u32) -> Result<(), OutOfMemory>
-    ensures { OnOk result (out.new.items ≡ out.old.items ++ const_text c) }
-{
-    push_signed(out, c.cast_signed())
 }
 
 /// An operand: its mark and its digit.
@@ -91,23 +77,6 @@ fn push_operand(out: &mut Vec<u8>, mark: &[u8], k: u8) -> Result<(), OutOfMemory
 {
     push(out, mark)?;
     push(out, Buffer::new().format(k).as_bytes())
-}
-
-fn push_fixed(out: &mut Vec<u8>, r: Reg) -> Result<(), OutOfMemory>
-    ensures { OnOk result (out.new.items ≡ out.old.items ++ reg_text r) }
-{
-    match r {
-        Reg::Virt(n) => {
-            push(out, b"v")?;
-            push(out, Buffer::new().format(n).as_bytes())
-        }
-        Reg::Fp => push(out, b"fp"),
-        Reg::Rv => push(out, b"rv"),
-        Reg::Arg(n) => {
-            push(out, b"arg")?;
-            push(out, Buffer::new().format(n).as_bytes())
-        }
-    }
 }
 
 fn push_reg(out: &mut Vec<u8>, r: PatReg) -> Result<(), OutOfMemory>
@@ -119,58 +88,18 @@ fn push_reg(out: &mut Vec<u8>, r: PatReg) -> Result<(), OutOfMemory>
     }
 }
 
-fn push_range(out: &mut Vec<u8>, range: Option<(i32, i32)>) -> Result<(), OutOfMemory>
+fn push_range(out: &mut Vec<u8>, range: Option<Bounds>) -> Result<(), OutOfMemory>
     ensures { OnOk result (out.new.items ≡ out.old.items ++ range_text range) }
 {
     match range {
         None => Ok(()),
-        Some((low, high)) => {
+        Some(bounds) => {
             push(out, b"[")?;
-            push_signed(out, low)?;
+            push_signed(out, bounds.lo)?;
             push(out, b",")?;
-            push_signed(out, high)?;
+            push_signed(out, bounds.hi)?;
             push(out, b"]")
         }
-    }
-}
-
-fn push_un(out: &mut Vec<u8>, op: Un) -> Result<(), OutOfMemory>
-    ensures { OnOk result (out.new.items ≡ out.old.items ++ un_text op) }
-{
-    match op {
-        Un::Neg => push(out, b"neg"),
-        Un::Not => push(out, b"not"),
-    }
-}
-
-fn push_bin(out: &mut Vec<u8>, op: Bin) -> Result<(), OutOfMemory>
-    ensures { OnOk result (out.new.items ≡ out.old.items ++ bin_text op) }
-{
-    match op {
-        Bin::Add => push(out, b"+"),
-        Bin::Sub => push(out, b"-"),
-        Bin::Mul => push(out, b"*"),
-        Bin::And => push(out, b"&"),
-        Bin::Or => push(out, b"|"),
-        Bin::Xor => push(out, b"^"),
-        Bin::Shl => push(out, b"<<"),
-        Bin::Sar => push(out, b">>"),
-        Bin::Shr => push(out, b">>>"),
-    }
-}
-
-fn push_rel(out: &mut Vec<u8>, rel: Rel) -> Result<(), OutOfMemory>
-    ensures { OnOk result (out.new.items ≡ out.old.items ++ rel_text rel) }
-{
-    match rel {
-        Rel::Eq => push(out, b"eq"),
-        Rel::Ne => push(out, b"ne"),
-        Rel::Lt => push(out, b"lt"),
-        Rel::Le => push(out, b"le"),
-        Rel::Gt => push(out, b"gt"),
-        Rel::Ge => push(out, b"ge"),
-        Rel::Ltu => push(out, b"ltu"),
-        Rel::Geu => push(out, b"geu"),
     }
 }
 

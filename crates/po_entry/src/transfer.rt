@@ -105,10 +105,7 @@ fn compared<'a>(
 fn set_of(to: PatReg, term: Option<PatTerm>) -> Option<PatTransfer>
     ensures { result ≡ option_map (transfer.Set to) term }
 {
-    match term {
-        None => None,
-        Some(term) => Some(PatTransfer::Set(to, term)),
-    }
+    term.map(|term| PatTransfer::Set(to, term))
 }
 
 /// `r := t`
@@ -133,10 +130,7 @@ fn set<'a>(
 fn cc_of(pair: Option<Pair>) -> Option<PatTransfer>
     ensures { result ≡ option_map (λ p. transfer.Cc p.left p.right) pair }
 {
-    match pair {
-        None => None,
-        Some(pair) => Some(PatTransfer::Cc(pair.left, pair.right)),
-    }
+    pair.map(|pair| PatTransfer::Cc(pair.left, pair.right))
 }
 
 /// `cc := t ? u`
@@ -161,10 +155,7 @@ fn cc<'a>(
 fn store_of(pair: Option<Pair>) -> Option<PatTransfer>
     ensures { result ≡ option_map (λ p. transfer.Store p.left p.right) pair }
 {
-    match pair {
-        None => None,
-        Some(pair) => Some(PatTransfer::Store(pair.left, pair.right)),
-    }
+    pair.map(|pair| PatTransfer::Store(pair.left, pair.right))
 }
 
 /// `M[t] := u`
@@ -230,10 +221,7 @@ fn relation<'a>(at: Cursor<'a>, seen: Operands) -> Result<Parsed<'a, Rel>, LineE
 fn branch_of(compares: Option<PatCond>, relation: Rel, k: u8) -> Option<PatTransfer>
     ensures { result ≡ option_map (λ c. transfer.If c relation k) compares }
 {
-    match compares {
-        None => None,
-        Some(condition) => Some(PatTransfer::If(condition, relation, k)),
-    }
+    compares.map(|condition| PatTransfer::If(condition, relation, k))
 }
 
 /// `REL goto @k`, behind what is compared.
@@ -257,10 +245,7 @@ fn branch<'a>(
 fn two_of(pair: Option<Pair>) -> Option<PatCond>
     ensures { result ≡ option_map (λ p. cond.Two p.left p.right) pair }
 {
-    match pair {
-        None => None,
-        Some(pair) => Some(PatCond::Two(pair.left, pair.right)),
-    }
+    pair.map(|pair| PatCond::Two(pair.left, pair.right))
 }
 
 /// `if cc REL goto @k`, `if t ? u REL goto @k`

@@ -1,12 +1,12 @@
 -- The line of an entry is read as that entry, begins with its word, and is plain.
-use Rattle.std.proofs.Common.{◌≡◌, ℕ, ◌+◌, ◌≤◌, ◌==◌, List, [], ◌∷◌, ◌++◌, Bool, true, false, Ok, refl, sym, ap, ◌∙◌, subst, map, All, codes, arith}
+use Rattle.std.proofs.Common.{◌≡◌, ℕ, ◌+◌, ◌≤◌, ◌==◌, List, [], ◌∷◌, ◌++◌, Bool, true, false, Ok, refl, sym, ap, subst, map, All, codes, arith}
 use Rattle.std.specs.Prelude.{⊤, cond}
 use Rattle.std.specs.List.{AllByRecursion}
 use Rattle.std.proofs.lemmas.Bool.Decides.{nat_tests}
 use Rattle.std.proofs.lemmas.List.Elements.{All-head, All-tail}
 use Rattle.po_text.specs.Words.{is_blank, with_byte, words_from}
 use Rattle.po_text.specs.declared.fault.Span.{Span}
-use Rattle.po_lines.specs.Words.{word_at, words_in}
+use Rattle.po_lines.specs.Words.{words_in}
 use Rattle.po_model.specs.declared.machine.Entry.{Entry}
 use Rattle.po_model.specs.Entries.{IsEntry}
 use Rattle.po_entry.specs.EntryText.{entry_text}

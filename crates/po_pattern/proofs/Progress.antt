@@ -8,6 +8,7 @@ use Rattle.po_word.specs.declared.operator.Bin.TheVariants.{Add, Sub, Mul, And, 
 use Rattle.po_text.specs.Words.{is_blank}
 use Rattle.po_name.specs.Names.{is_name_byte}
 use Rattle.po_term.specs.declared.term.Reg.{Reg}
+use Rattle.po_model.specs.declared.machine.Bounds.{Bounds}
 use Rattle.po_model.specs.declared.machine.PatReg.{PatReg}
 use Rattle.po_model.specs.declared.machine.PatTerm.{PatTerm}
 use Rattle.po_lines.specs.declared.fault.LineFault.{LineFault}
@@ -104,7 +105,7 @@ range_behind_less column new r seen n h = ok_if (Below n) (begins 91 (skip_blank
 
 constant_less : (r : Rest) (seen : Operands) → IfOk (parts.constant r seen) (Below (left r))
 unfolding parts.constant
-constant_less r seen = ok_bind (Below {T = ℕ} (left r)) (Below (left r)) _ _ (operand_less _ r seen) (λ k a. ok_bind (Below {T = Option (ℤ × ℤ)} (left r)) (Below (left r)) _ _ (range_behind_less r.column _ k.rest k.seen (left r) a) (λ range b. b))
+constant_less r seen = ok_bind (Below {T = ℕ} (left r)) (Below (left r)) _ _ (operand_less _ r seen) (λ k a. ok_bind (Below {T = Option Bounds} (left r)) (Below (left r)) _ _ (range_behind_less r.column _ k.rest k.seen (left r) a) (λ range b. b))
 
 symbol_address_less : (r : Rest) (seen : Operands) → IfOk (parts.symbol_address r seen) (Below (left r))
 unfolding parts.symbol_address

@@ -5,12 +5,14 @@ use Rattle.std.proofs.lemmas.Bool.Decides.{nat_tests}
 use Rattle.po_word.specs.declared.operator.Un.{Un}
 use Rattle.po_word.specs.declared.operator.Bin.{Bin}
 use Rattle.po_term.specs.Tree.{Const, Leaf, Read as ReadAt, Unary, Binary, tree_size, tree_depth, EachConst, EachLeaf}
+use Rattle.po_model.specs.declared.machine.Bounds.{Bounds}
 use Rattle.po_model.specs.declared.machine.PatReg.{PatReg}
 use denote.Hole.Carrier.{roll}
 use Rattle.po_model.specs.declared.machine.PatTerm.{PatTerm, roll-PatTerm}
 use Rattle.po_model.specs.declared.machine.PatTerm.TheFolds.{fold-roll-PatTerm}
 use Rattle.po_model.specs.declared.machine.PatTerm.TheVariants as pat
 use Rattle.po_model.specs.declared.machine.PatTerm.TheOpen.{PatTerm-F}
+use Rattle.po_model.specs.Entries.{IsPatConst, IsPatLeaf, IsPatReg}
 use Rattle.po_model.specs.Patterns.{Exactly, Operand, InPatReg, AtSymbol, PatTree, layer_of, pattern_of}
 use Rattle.po_pattern.specs.declared.operands.Operands.{Operands}
 use Rattle.po_pattern.specs.declared.part.Part.{Part}
@@ -26,8 +28,8 @@ use Rattle.po_pattern.specs.Terms as terms
 use Rattle.po_pattern.specs.Terms.{Reading}
 use Rattle.po_lines.specs.Leaves.{same}
 use Rattle.po_word.specs.Words.{word_of}
-use Rattle.po_pattern.proofs.LeafFacts.{operand_digit, IsNumber, number_is, word_fits, HasRange, range_behind_is, fixed_register_is, any_register_is}
-use Rattle.po_pattern.specs.Formed.{IsConst, IsLeaf, IsPatReg, IsKeptTerm}
+use Rattle.po_pattern.proofs.LeafFacts.{operand_digit, IsNumber, number_is, word_fits, Ranged, range_behind_is, fixed_register_is, any_register_is}
+use Rattle.po_pattern.specs.Formed.{IsKeptTerm}
 use Rattle.po_pattern.proofs.Oks.{ok_bind, ok_then, ok_if, ok_marked, some_if, both}
 
 -- how the plain tree of a term is made of those of its parts
@@ -39,7 +41,7 @@ tree_num : (n : ℕ) → pattern_of (pat.Num n) ≡ Const (Exactly n)
 unfolding roll-PatTerm roll
 tree_num n = fold-roll-PatTerm PatTree layer_of (PatTerm-F.Num n)
 
-tree_const : (k : ℕ) (range : Option (ℤ × ℤ)) → pattern_of (pat.Const k range) ≡ Const (Operand k range)
+tree_const : (k : ℕ) (range : Option Bounds) → pattern_of (pat.Const k range) ≡ Const (Operand k range)
 unfolding roll-PatTerm roll
 tree_const k range = fold-roll-PatTerm PatTree layer_of (PatTerm-F.Const k range)
 
@@ -61,8 +63,8 @@ tree_bin o t u = fold-roll-PatTerm PatTree layer_of (PatTerm-F.Bin o t u)
 
 -- a tree within the limits, with its number of nodes and its depth
 record IsBuilt (t : PatTree) (n d : ℕ) : Type 0 where
-  consts : EachConst IsConst t
-  leaves : EachLeaf IsLeaf t
+  consts : EachConst IsPatConst t
+  leaves : EachLeaf IsPatLeaf t
   size : n ≡ tree_size t
   depth : d ≡ tree_depth t
   few : n ≤ 64
@@ -77,7 +79,7 @@ IsKept p = IfSome p IsPart
 at_most : (a b : ℕ) → nat_le a b ≡ true → a ≤ b
 at_most a b h = grind (arith, nat_tests)
 
-kept_is : (term : PatTerm) (t : PatTree) (size depth : ℕ) → pattern_of term ≡ t → EachConst IsConst t → EachLeaf IsLeaf t → size ≡ tree_size t → depth ≡ tree_depth t → IsKept (terms.kept term size depth)
+kept_is : (term : PatTerm) (t : PatTree) (size depth : ℕ) → pattern_of term ≡ t → EachConst IsPatConst t → EachLeaf IsPatLeaf t → size ≡ tree_size t → depth ≡ tree_depth t → IsKept (terms.kept term size depth)
 kept_is term t size depth same consts leaves s d = some_if IsPart (nat_le size 64 && nat_le depth 16) _ _
     (λ e. let limits = both (nat_le size 64) (nat_le depth 16) e in
     let P : PatTree → Type 0 = λ u. IsBuilt u size depth in
@@ -100,7 +102,7 @@ binary_is o (Some p) (Some q) h k = kept_is (pat.Bin o p.term q.term) (Binary o 
 abbrev IsSmall : PatTerm → Type 0
 IsSmall t = IsBuilt (pattern_of t) 1 1
 
-small_is : (term : PatTerm) (t : PatTree) → pattern_of term ≡ t → EachConst IsConst t → EachLeaf IsLeaf t → tree_size t ≡ 1 → tree_depth t ≡ 1 → IsSmall term
+small_is : (term : PatTerm) (t : PatTree) → pattern_of term ≡ t → EachConst IsPatConst t → EachLeaf IsPatLeaf t → tree_size t ≡ 1 → tree_depth t ≡ 1 → IsSmall term
 small_is term t same consts leaves s d = let P : PatTree → Type 0 = λ u. IsBuilt u 1 1 in
     subst P (sym same) (record { consts = consts; leaves = leaves; size = sym s; depth = sym d; few = omega arith; flat = omega arith })
 
@@ -115,7 +117,7 @@ Register p = IsPatReg p.value
 
 constant_is : (r : Rest) (seen : Operands) → IfOk (parts.constant r seen) Small
 unfolding parts.constant
-constant_is r seen = ok_bind (λ (p : Read ℕ). p.value < 10) Small _ _ (operand_digit _ r seen) (λ k digit. ok_bind HasRange Small _ _ (range_behind_is r.column _ k.rest k.seen)
+constant_is r seen = ok_bind (λ (p : Read ℕ). p.value < 10) Small _ _ (operand_digit _ r seen) (λ k digit. ok_bind Ranged Small _ _ (range_behind_is r.column _ k.rest k.seen)
     (λ range h. small_is (pat.Const k.value range.value) (Const (Operand k.value range.value)) (tree_const k.value range.value) (digit, h) tt refl refl))
 
 symbol_address_is : (r : Rest) (seen : Operands) → IfOk (parts.symbol_address r seen) Small
@@ -211,7 +213,7 @@ steps_is (suc n) s h = ok_bind IsReading IsReading _ _ (step_is s h) (λ t g. st
 whole_of_is : (t : Turn) → IsTurn t → IsKeptTerm (terms.whole_of t)
 whole_of_is (Opens f) h = tt
 whole_of_is (Whole None) h = tt
-whole_of_is (Whole (Some p)) h = record { consts = h.consts; leaves = h.leaves; few = omega (arith, h.size, h.few); flat = omega (arith, h.depth, h.flat) }
+whole_of_is (Whole (Some p)) h = record { size = omega (arith, h.size, h.few); depth = omega (arith, h.depth, h.flat); numbers = record { consts = h.consts; leaves = h.leaves } }
 
 abbrev Keeps : Read (Option PatTerm) → Type 0
 Keeps p = IsKeptTerm p.value

@@ -7,6 +7,7 @@ use Rattle.po_text.specs.declared.fault.Kind.TheVariants as fault_kind
 use Rattle.po_name.specs.Names.{is_digit, is_name_byte}
 use Rattle.po_term.specs.declared.term.Reg.{Reg}
 use Rattle.po_term.specs.declared.term.Reg.TheVariants.{Fp, Rv, Arg}
+use Rattle.po_model.specs.declared.machine.Bounds.{Bounds}
 use Rattle.po_model.specs.declared.machine.PatReg.{PatReg}
 use Rattle.po_model.specs.declared.machine.PatReg.TheVariants.{Any, Fixed}
 use Rattle.po_model.specs.declared.machine.PatTerm.{PatTerm}
@@ -68,7 +69,7 @@ abbrev pub in_order : ℕ → ℤ → ℤ → Result ⊤ LineFault
 in_order column low high = if int_le low high then Ok tt else Err (fault column fault_kind.Range)
 
 -- a range `[lo,hi]`
-unfoldable pub range : Rest → Operands → Result (Read (Option (ℤ × ℤ))) LineFault
+unfoldable pub range : Rest → Operands → Result (Read (Option Bounds)) LineFault
 range r seen = do
   opened ← mark 91 r
   low ← number (skip_blanks opened) seen
@@ -76,10 +77,10 @@ range r seen = do
   high ← number (skip_blanks comma) seen
   ordered ← in_order r.column low.value high.value
   close ← mark 93 (skip_blanks high.rest)
-  Ok (record { value = Some (low.value, high.value); rest = close; seen = seen })
+  Ok (record { value = Some (record { lo = low.value; hi = high.value }); rest = close; seen = seen })
 
 -- the range behind an operand `#k`, which stands at this column, if it has one; only a new operand may have one
-unfoldable pub range_behind : ℕ → Bool → Rest → Operands → Result (Read (Option (ℤ × ℤ))) LineFault
+unfoldable pub range_behind : ℕ → Bool → Rest → Operands → Result (Read (Option Bounds)) LineFault
 range_behind column new r seen = if begins 91 (skip_blanks r).bytes
     then (if new then range (skip_blanks r) seen else Err (fault column fault_kind.ListForm))
     else Ok (record { value = None; rest = r; seen = seen })

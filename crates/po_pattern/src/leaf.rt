@@ -5,7 +5,7 @@ ghost use Rattle.po_word.specs.Words.{word_of};
 ghost use Rattle.po_lines.specs.Faults.{Gives};
 ghost use Rattle.po_pattern.specs.Rests.{rest_of, read_of};
 ghost use Rattle.po_pattern.specs.Parts as parts;
-ghost use Rattle.po_pattern.specs.Formed.{IsPatReg};
+ghost use Rattle.po_model.specs.Entries.{IsPatReg};
 
 use crate::cursor::{Cursor, Parsed};
 use crate::numbers::number;

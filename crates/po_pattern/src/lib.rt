@@ -6,6 +6,8 @@
 //! `cursor` is a place of a line and what was read from there on; `places` goes on in a line; `operands` has the operands
 //! seen so far; `numbers`, `ranges` and `leaf` read one part; `turns` says what may stand where a term is wanted and behind
 //! a whole part; `whole` reads a whole term; `laws` says that it is read to its end.
+//!
+//! Its tests stand in `po_input_rows`.
 #![tactic(auto)]
 
 mod built;
@@ -19,8 +21,6 @@ mod part;
 mod places;
 mod ranges;
 mod reading;
-#[cfg(test)]
-mod tests;
 mod turns;
 mod whole;
 

@@ -10,7 +10,7 @@ use crate::numbers::number;
 use crate::operands::{OperandKind, Operands, is_new, kind_of, may_be, with_operand};
 use crate::places::{begins, behind, is_digit_byte, mark, skip_blanks};
 use po_lines::{LineError, fault_at};
-use po_model::PatTerm;
+use po_model::{Bounds, PatTerm};
 use po_text::Kind;
 
 /// The byte that an operand of this kind begins with.
@@ -85,10 +85,7 @@ fn in_order(column: u32, low: i32, high: i32) -> Result<(), LineError>
 /// A range `[lo,hi]`, its ends from -2147483648 to 2147483647. A lower end above the upper one is Range at the `[`,
 /// decided before the `]` is looked at.
 #[tactic(auto, unfolding(crate::specs::Parts::range))]
-fn range<'a>(
-    cursor: Cursor<'a>,
-    seen: Operands,
-) -> Result<Parsed<'a, Option<(i32, i32)>>, LineError>
+fn range<'a>(cursor: Cursor<'a>, seen: Operands) -> Result<Parsed<'a, Option<Bounds>>, LineError>
     ensures { Gives read_of result (parts.range (rest_of cursor.entry) seen) }
 {
     let opened = mark(cursor, b'[')?;
@@ -98,7 +95,10 @@ fn range<'a>(
     in_order(cursor.column, low.value, high.value)?;
     let rest = mark(skip_blanks(high.rest), b']')?;
     Ok(Parsed {
-        value: Some((low.value, high.value)),
+        value: Some(Bounds {
+            lo: low.value,
+            hi: high.value,
+        }),
         rest,
         seen,
     })
@@ -112,7 +112,7 @@ fn range_behind<'a>(
     new: bool,
     cursor: Cursor<'a>,
     seen: Operands,
-) -> Result<Parsed<'a, Option<(i32, i32)>>, LineError>
+) -> Result<Parsed<'a, Option<Bounds>>, LineError>
     ensures { Gives read_of result (parts.range_behind column new (rest_of cursor.entry) seen) }
 {
     let next = skip_blanks(cursor);

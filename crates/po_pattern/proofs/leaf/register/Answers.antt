@@ -1,6 +1,6 @@
 use Rattle.po_pattern.specs.Rests.{rest_of}
 use Rattle.po_pattern.specs.Parts as parts
-use Rattle.po_pattern.specs.Formed.{IsPatReg}
+use Rattle.po_model.specs.Entries.{IsPatReg}
 use Rattle.po_pattern.proofs.Oks.{told}
 use Rattle.po_pattern.proofs.LeafFacts.{register_is}
 use Rattle.po_pattern.proofs.leaf.register.Goals as goal
