@@ -1,12 +1,12 @@
 -- Registers whose intervals share a point get different machine registers, where no point is crowded.
 use Rattle.std.proofs.Common.{ℕ, ◌+◌, ◌<◌, ◌≤◌, List, [], ◌∷◌, ◌++◌, length, get_or, set, replicate, subst, zero, suc, arith, ◌⊎◌, inl, inr, ◌*◌, map}
 use Rattle.std.proofs.lemmas.Bool.{cases_lt}
-use Rattle.po_model.specs.Blocks.{PlainInstr}
 use Rattle.po_model.specs.Placement.{Interval, intervals, intervals_from, interval_of, IsUncrowded, place_from, placement, AreApart}
 use Rattle.po_assign.specs.Spans.{Rising}
 use Rattle.po_assign.proofs.Standing.{Standing, standing_begin, standing_step, standing_crowded}
 use Rattle.po_assign.proofs.LastReads.{read_later}
 use Rattle.po_model.specs.UnitCodes.{written}
+use Rattle.po_term.specs.Moves.{PlainInstr}
 
 -- the lowest of these ends that lies before a point
 abbrev Free : ℕ → List ℕ → Type 0

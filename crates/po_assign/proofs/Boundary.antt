@@ -5,9 +5,9 @@ use Rattle.std.specs.List.{list_any}
 use Rattle.std.proofs.lemmas.Bool.{false≢true, true≢false}
 use Rattle.std.proofs.lemmas.List.Elements.{Contains-append_cases}
 use Rattle.po_term.specs.declared.term.Reg.TheVariants.{Virt, Fp, Rv, Arg}
-use Rattle.po_term.specs.Moves.{SetTo, CcTo, StoreTo, Ends}
+use Rattle.po_term.specs.Moves.{SetTo, CcTo, StoreTo, Ends, PlainInstr}
 use Rattle.po_model.specs.declared.var.Var.TheVariants.{Reg}
-use Rattle.po_model.specs.Blocks.{PlainInstr, PlainBlock, instrs_at}
+use Rattle.po_model.specs.Blocks.{PlainBlock, instrs_at}
 use Rattle.po_model.specs.LiveAfter.{Point, reads, sets, move_sets, ReadOn, IsLive}
 use Rattle.po_model.specs.UnitCodes.{written, ReadsBehind}
 

@@ -8,13 +8,15 @@ use Rattle.po_term.specs.Kinds.{Met, give, words}
 use Rattle.po_model.specs.declared.machine.Entry.{Entry}
 use Rattle.po_model.specs.declared.machine.Machine.{Machine}
 use Rattle.po_model.specs.declared.var.Var.TheVariants.{Cc}
-use Rattle.po_model.specs.Blocks.{PlainInstr, PlainBlock, instrs_at}
-use Rattle.po_model.specs.Fit.{Found, places, moves_found, answered, or_later, first_fit, fit}
+use Rattle.po_model.specs.Blocks.{PlainBlock, instrs_at}
+use Rattle.po_model.specs.Fit.{Found, moves_found, answered, or_later, first_fit, fit}
 use Rattle.po_model.specs.Fitted.{TellsCc}
 use Rattle.po_model.specs.LiveAfter.{IsLive}
 use Rattle.po_model.specs.Patterns.{pat_moves_of}
 use Rattle.po_model.specs.Placed.{entry_clobbers, found_clobbers}
 use Rattle.po_assign.proofs.PlacedSteps.{KeepCc}
+use Rattle.po_term.specs.Moves.{PlainInstr}
+use Rattle.po_model.specs.Parts.{code_leaves}
 
 abbrev Finds : Type 0
 Finds = List (Found ℕ Register Sym)
@@ -24,12 +26,12 @@ abbrev IsSparing : Bool → List Entry → ℕ → ℕ → Type 0
 IsSparing live es n number = (k : ℕ) × (number ≡ n + k) × ((e : Entry) × (slice_get es k ≡ Some e) × ((e.clobbers && live) ≡ false))
 
 -- what is found is found at the first entry, or at a later one
-found_here : (n : ℕ) (o : Option Finds) (later : Met ℕ (Option (ℕ × Finds))) (found : ℕ × Finds) → (or_later places n o later).got ≡ Some found → (found.0 ≡ n) ⊎ (later.got ≡ Some found)
+found_here : (n : ℕ) (o : Option Finds) (later : Met ℕ (Option (ℕ × Finds))) (found : ℕ × Finds) → (or_later n o later).got ≡ Some found → (found.0 ≡ n) ⊎ (later.got ≡ Some found)
 found_here n None later found h = inr h
 found_here n (Some fs) later found h = let e : (n, fs) ≡ found = (cc) in inl (sym (ap {A = ℕ × Finds} (λ p. p.0) e))
 
 found_first : (n : ℕ) (c : Bool) (here : Met ℕ (Option Finds)) (later : Met ℕ (Option (ℕ × Finds))) (found : ℕ × Finds)
-    → (or_later places n (if c then give {K = ℕ} None else here).got later).got ≡ Some found → ((c ≡ false) × (found.0 ≡ n)) ⊎ (later.got ≡ Some found)
+    → (or_later n (if c then give {K = ℕ} None else here).got later).got ≡ Some found → ((c ≡ false) × (found.0 ≡ n)) ⊎ (later.got ≡ Some found)
 found_first n true here later found h = inr h
 found_first n false here later found h =
     elim (found_here n here.got later found h) [
@@ -37,10 +39,10 @@ found_first n false here later found h =
       | inr e ↦ inr e
     ]
 
-found_sparing : (live : Bool) (es : List Entry) (n : ℕ) (x : PlainInstr) (found : ℕ × Finds) → (first_fit places words live es n x).got ≡ Some found → IsSparing live es n found.0
+found_sparing : (live : Bool) (es : List Entry) (n : ℕ) (x : PlainInstr) (found : ℕ × Finds) → (first_fit code_leaves words live es n x).got ≡ Some found → IsSparing live es n found.0
 found_sparing live [] n x found h = absurd (cc)
 found_sparing live (e ∷ es) n x found h =
-    elim (found_first n (e.clobbers && live) (answered places words (moves_found places (pat_moves_of e.pattern) x)) (first_fit places words live es (suc n) x) found h) [
+    elim (found_first n (e.clobbers && live) (answered code_leaves words (moves_found code_leaves (pat_moves_of e.pattern) x)) (first_fit code_leaves words live es (suc n) x) found h) [
       | inl i ↦ (0, omega (arith, i.1), (e, refl, i.0))
       | inr i ↦ let later = found_sparing live es (suc n) x found i in (suc later.0, omega (arith, later.1), later.2)
     ]

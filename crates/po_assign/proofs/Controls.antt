@@ -9,13 +9,13 @@ use Rattle.po_term.specs.declared.term.Reg.TheVariants.{Virt, Fp, Rv, Arg}
 use Rattle.po_term.specs.declared.term.Sym.{Sym}
 use Rattle.po_term.specs.declared.term.Label.{Label}
 use Rattle.po_term.specs.Terms.{Place, InReg, State, value}
-use Rattle.po_term.specs.Moves.{Ending, GoTo, IfCc, IfTwo, CallOf, Return, SetTo, CcTo, StoreTo, Ends}
+use Rattle.po_term.specs.Moves.{Ending, GoTo, IfCc, IfTwo, CallOf, Return, SetTo, CcTo, StoreTo, Ends, PlainInstr}
 use Rattle.po_term.specs.Simplified.{reg_eq}
 use Rattle.po_term.specs.Form.{GoesBefore}
 use Rattle.po_model.specs.declared.var.Var.{Var}
 use Rattle.po_model.specs.declared.var.Var.TheVariants.{Reg, Cc}
-use Rattle.po_model.specs.Blocks.{PlainInstr, PlainBlock, block_with, target_by, goes_on}
-use Rattle.po_model.specs.Parts.{plainly, right_at, cc_of, ending_of}
+use Rattle.po_model.specs.Blocks.{PlainBlock, block_with, target_by, goes_on}
+use Rattle.po_model.specs.Parts.{code_leaves, right_at, cc_of, ending_of}
 use Rattle.po_model.specs.Effect.{Control, Next, Jump, Called, Returned, branch, by_cc, arguments, goes}
 use Rattle.po_model.specs.LiveAfter.{is_reg, is_cc, move_sets, sets}
 
@@ -82,11 +82,11 @@ ending_alone : (s : State) (e : Ending ℕ Place Sym) (ms : PlainInstr) (c : Con
 ending_alone s e ms c v n g p = rw n (neither (move_sets (Ends e) v) false (ending_sets s e c v g p) refl)
 
 -- what has no right side isn't set, but by a call
-pub register_unset : (s : State) (c : Control) (r : Register) (x : PlainInstr) → EndsOnce x → goes s (ending_of x) ≡ Some c → passes c (Reg r) ≡ true → right_at plainly (InReg r) x ≡ None → sets x (Reg r) ≡ false
+pub register_unset : (s : State) (c : Control) (r : Register) (x : PlainInstr) → EndsOnce x → goes s (ending_of x) ≡ Some c → passes c (Reg r) ≡ true → right_at code_leaves (InReg r) x ≡ None → sets x (Reg r) ≡ false
 register_unset s c r [] n g p e = refl
 register_unset s c r (SetTo q t ∷ ms) n g p e = go (reg_eq r q) (reg_swap q r) e (register_unset s c r ms n g p)
   where
-    go : (b : Bool) → reg_eq q r ≡ b → (if b then Some t else right_at plainly (InReg r) ms) ≡ None → (right_at plainly (InReg r) ms ≡ None → sets ms (Reg r) ≡ false) → (reg_eq q r || sets ms (Reg r)) ≡ false
+    go : (b : Bool) → reg_eq q r ≡ b → (if b then Some t else right_at code_leaves (InReg r) ms) ≡ None → (right_at code_leaves (InReg r) ms ≡ None → sets ms (Reg r) ≡ false) → (reg_eq q r || sets ms (Reg r)) ≡ false
     go true i k others = absurd (cc)
     go false i k others = neither (reg_eq q r) (sets ms (Reg r)) i (others k)
 register_unset s c r (CcTo t u ∷ ms) n g p e = register_unset s c r ms n g p e

@@ -3,8 +3,9 @@ use Rattle.std.proofs.Common.{◌≤◌, List, [], ◌∷◌, length, suc, arith
 use Rattle.std.specs.List.{All}
 use Rattle.std.proofs.lemmas.List.Elements.{All-append}
 use Rattle.po_term.specs.Form.{WellFormed}
-use Rattle.po_model.specs.Blocks.{PlainInstr, PlainBlock}
+use Rattle.po_model.specs.Blocks.{PlainBlock}
 use Rattle.po_model.specs.UnitCodes.{flat}
+use Rattle.po_term.specs.Moves.{PlainInstr}
 
 pub formed_few : (bs : List PlainBlock) → All (λ b. All WellFormed b.instrs) bs → All (λ (i : PlainInstr). length i ≤ 4) (flat bs)
 formed_few [] h = λ k d l. absurd (omega arith)

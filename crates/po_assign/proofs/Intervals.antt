@@ -4,11 +4,9 @@ use Rattle.std.specs.List.{All}
 use Rattle.std.proofs.lemmas.List.{length-map, map-append}
 use Rattle.po_term.specs.declared.transfer.Transfer.{Transfer}
 use Rattle.po_term.specs.declared.transfer.Instr.{Instr}
-use Rattle.po_term.specs.Moves.{SetTo, CcTo, StoreTo, Ends, move_of, moves_of, instr_of, instrs_of}
-use Rattle.po_term.specs.Form.{PlainMove}
+use Rattle.po_term.specs.Moves.{SetTo, CcTo, StoreTo, Ends, move_of, moves_of, instr_of, instrs_of, PlainMove, PlainInstr}
 use Rattle.po_term.specs.declared.term.Reg.TheVariants.{Virt, Fp, Rv, Arg}
 use Rattle.po_model.specs.declared.code.Block.{Block}
-use Rattle.po_model.specs.Blocks.{PlainInstr}
 use Rattle.po_model.specs.UnitCodes.{written}
 use Rattle.po_model.specs.Placement.{Interval, last_read, interval_of, intervals_from, intervals}
 use Rattle.po_assign.specs.declared.spans.Span.{Span}

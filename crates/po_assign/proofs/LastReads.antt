@@ -3,11 +3,10 @@ use Rattle.std.proofs.Common.{◌≡◌, ℕ, ◌+◌, ◌*◌, ◌<◌, ◌≤�
 use Rattle.std.proofs.lemmas.List.{length-map}
 use Rattle.po_term.specs.declared.transfer.Transfer.{Transfer}
 use Rattle.po_term.specs.declared.transfer.Instr.{Instr}
-use Rattle.po_term.specs.Moves.{move_of, moves_of, instr_of, instrs_of}
+use Rattle.po_term.specs.Moves.{move_of, moves_of, instr_of, instrs_of, PlainInstr}
 use Rattle.po_term.specs.declared.term.Reg.TheVariants.{Virt}
 use Rattle.po_model.specs.declared.code.Block.{Block}
 use Rattle.po_model.specs.declared.var.Var.TheVariants.{Reg}
-use Rattle.po_model.specs.Blocks.{PlainInstr}
 use Rattle.po_model.specs.LiveAfter.{move_reads, reads}
 use Rattle.po_model.specs.Placement.{last_read}
 use Rattle.po_assign.proofs.Lists.{next_of, behind_all, all_of, block_next}

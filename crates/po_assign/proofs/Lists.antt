@@ -4,9 +4,9 @@ use Rattle.std.proofs.Math.ListN.{drop_of_length-le}
 use Rattle.std.proofs.Math.Seq.{take-length}
 use Rattle.std.proofs.lemmas.List.{length-drop, length-map}
 use Rattle.po_term.specs.declared.transfer.Instr.{Instr}
-use Rattle.po_term.specs.Moves.{instrs_of}
+use Rattle.po_term.specs.Moves.{instrs_of, PlainInstr}
 use Rattle.po_model.specs.declared.code.Block.{Block}
-use Rattle.po_model.specs.Blocks.{PlainInstr, block_of}
+use Rattle.po_model.specs.Blocks.{block_of}
 use Rattle.po_model.specs.UnitCodes.{flat}
 
 -- the next element, and those behind it

@@ -7,13 +7,13 @@ use Rattle.std.proofs.lemmas.List.Elements.{Contains-append_left, Contains-appen
 use Rattle.std.proofs.lemmas.Grind.{reverse_onto}
 use Rattle.po_term.specs.declared.term.Reg.TheVariants.{Virt}
 use Rattle.po_model.specs.declared.var.Var.TheVariants.{Reg}
-use Rattle.po_model.specs.Blocks.{PlainInstr}
 use Rattle.po_model.specs.LiveAfter.{reads}
-use Rattle.po_model.specs.Placement.{last_read, Interval, interval_of, intervals_from, intervals, contains, IsUncrowded, PlacedInterval, lowest_from, place_from, placement, pair_of, registers, machine_of}
+use Rattle.po_model.specs.Placement.{last_read, Interval, interval_of, intervals_from, intervals, contains, IsUncrowded, PlacedInterval, lowest_from, place_from, placement, assigned, registers, machine_of}
 use Rattle.po_model.specs.UnitCodes.{written, all_written}
 use Rattle.po_assign.proofs.LastReads.{read_later}
 use Rattle.po_assign.proofs.Apart.{placement_apart}
 use Rattle.po_assign.proofs.Boundary.{any_reads}
+use Rattle.po_term.specs.Moves.{PlainInstr}
 
 -- lists
 
@@ -128,14 +128,14 @@ abbrev keys : List (ℕ × ℕ) → List ℕ
 keys xs = map (λ (x : ℕ × ℕ). x.0) xs
 
 -- the registers of the pairs are those of the intervals, in order
-keys_placed : (n : ℕ) (done : List PlacedInterval) (is : List Interval) → keys (reverse (map pair_of (place_from n done is))) ≡ keys (reverse (map pair_of done)) ++ map (λ (i : Interval). i.register) is
-keys_placed n done [] = sym (append-nil (keys (reverse (map pair_of done))))
+keys_placed : (n : ℕ) (done : List PlacedInterval) (is : List Interval) → keys (reverse (map assigned (place_from n done is))) ≡ keys (reverse (map assigned done)) ++ map (λ (i : Interval). i.register) is
+keys_placed n done [] = sym (append-nil (keys (reverse (map assigned done))))
 keys_placed n done (j ∷ js) =
     let d : PlacedInterval = record { interval = j; machine = lowest_from done j.start 0 n } in
-    let before = reverse (map pair_of done) in
+    let before = reverse (map assigned done) in
     keys_placed n (d ∷ done) js
-    ∙ ap (λ (xs : List (ℕ × ℕ)). keys xs ++ map (λ (i : Interval). i.register) js) (reverse_onto (map pair_of done) (pair_of d) [])
-    ∙ ap (λ (vs : List ℕ). vs ++ map (λ (i : Interval). i.register) js) (map-append (λ (x : ℕ × ℕ). x.0) before (pair_of d ∷ []))
+    ∙ ap (λ (xs : List (ℕ × ℕ)). keys xs ++ map (λ (i : Interval). i.register) js) (reverse_onto (map assigned done) (assigned d) [])
+    ∙ ap (λ (vs : List ℕ). vs ++ map (λ (i : Interval). i.register) js) (map-append (λ (x : ℕ × ℕ). x.0) before (assigned d ∷ []))
     ∙ append_assoc (keys before) (j.register ∷ []) (map (λ (i : Interval). i.register) js)
 
 keys_written : (n : ℕ) (code : List PlainInstr) → keys (registers n code) ≡ all_written code
@@ -160,8 +160,8 @@ module _ (n : ℕ) (code : List PlainInstr) (un : IsUncrowded n (intervals code)
 
   machine_found : (d : PlacedInterval) → Contains (placement n code) d → machine d.interval.register ≡ d.machine
   machine_found d c =
-      found_pair (registers n code) (pair_of d) (subst (λ (vs : List ℕ). AllPairs (λ v w. v ≢ w) vs) (sym (keys_written n code)) once)
-      (contains_reverse (map pair_of (placement n code)) (pair_of d) (contains_map pair_of (placement n code) d c))
+      found_pair (registers n code) (assigned d) (subst (λ (vs : List ℕ). AllPairs (λ v w. v ≢ w) vs) (sym (keys_written n code)) once)
+      (contains_reverse (map assigned (placement n code)) (assigned d) (contains_map assigned (placement n code) d c))
 
   is_within : (i : Interval) (point : ℕ) → i.start ≤ point → point ≤ i.finish → IsTrue (contains i point)
   is_within i point a b = rw (le-leb i.start point a, le-leb point i.finish b) refl

@@ -9,7 +9,7 @@ use Rattle.std.proofs.lemmas.Grind.{flat_map-append}
 use Rattle.po_term.specs.declared.term.Reg.TheVariants.{Virt}
 use Rattle.po_model.specs.declared.machine.Machine.{Machine}
 use Rattle.po_model.specs.declared.var.Var.TheVariants.{Reg}
-use Rattle.po_model.specs.Blocks.{PlainInstr, PlainBlock, instrs_at}
+use Rattle.po_model.specs.Blocks.{PlainBlock, instrs_at}
 use Rattle.po_model.specs.LiveAfter.{reads}
 use Rattle.po_model.specs.Placed.{placed_at}
 use Rattle.po_model.specs.Placement.{intervals, IsUncrowded}
@@ -17,6 +17,7 @@ use Rattle.po_model.specs.UnitCodes.{written, all_written, flat}
 use Rattle.po_assign.proofs.Boundary.{any_reads, or_left}
 use Rattle.po_assign.proofs.MachineRegisters.{HasInterval, held_interval, written_interval, machines_apart}
 use Rattle.po_assign.proofs.PlacedSteps.{PlacesApart}
+use Rattle.po_term.specs.Moves.{PlainInstr}
 
 -- the instructions of a block stand in the code, with those of the blocks before and behind it around them
 flat_around : (code : List PlainBlock) (b : ℕ) → (before : List PlainInstr) × (after : List PlainInstr) × (flat code ≡ before ++ (instrs_at code b ++ after))

@@ -12,7 +12,7 @@ use Rattle.po_model.specs.declared.machine.Machine.{Machine}
 use Rattle.po_model.specs.declared.var.Var.{Var}
 use Rattle.po_model.specs.declared.var.Var.TheVariants.{Reg, Cc}
 use Rattle.po_model.specs.Blocks.{PlainBlock, instrs_at, block_with, target_by, ending_at, next_at, goes_on, is_at, leads}
-use Rattle.po_model.specs.Effect.{Control, Next, Jump, Called, Returned, Done}
+use Rattle.po_model.specs.Effect.{Control, Next, Jump, Called, Returned, Effected}
 use Rattle.po_model.specs.LiveAfter.{is_reg, is_cc, IsLive}
 use Rattle.po_model.specs.Run.{Write, Reply, Call, Before, LiveWhere, Same, SameResult, written as written_to, replied, stands_before, answered, leave, leave_done}
 use Rattle.po_model.specs.Placed.{place_of}
@@ -125,7 +125,7 @@ module _ (m : Machine) (at : ℕ → ℕ) (code : List PlainBlock) where
     compared = λ e. returned_holds b w s t a Cc e;
   }
 
-  pub leave_ended : (b : ℕ) (o p : Option Done) (calls : List Call) (replies : List Reply) → Ended m at code b (ending_at code b) o p
+  pub leave_ended : (b : ℕ) (o p : Option Effected) (calls : List Call) (replies : List Reply) → Ended m at code b (ending_at code b) o p
       → SameResult code (place_of at) (leave_done code b o calls replies) (leave_done code b p calls replies)
   leave_ended b None None calls replies h = tt
   leave_ended b None (Some f) calls replies h = absurd h

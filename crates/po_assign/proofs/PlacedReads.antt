@@ -7,14 +7,13 @@ use Rattle.po_term.specs.declared.term.Reg.{Reg as Register}
 use Rattle.po_term.specs.declared.term.Reg.TheVariants.{Virt, Fp, Rv, Arg}
 use Rattle.po_term.specs.declared.term.Sym.{Sym}
 use Rattle.po_term.specs.Tree.{Const, Leaf, Read, Unary, Binary, tree_map}
-use Rattle.po_term.specs.Terms.{Place, InReg, AtSym, State, value}
-use Rattle.po_term.specs.Moves.{Ending, GoTo, IfCc, IfTwo, CallOf, Return, SetTo, CcTo, StoreTo, Ends}
+use Rattle.po_term.specs.Terms.{Place, InReg, AtSym, State, value, PlainTerm}
+use Rattle.po_term.specs.Moves.{Ending, GoTo, IfCc, IfTwo, CallOf, Return, SetTo, CcTo, StoreTo, Ends, PlainInstr}
 use Rattle.po_term.specs.Simplified.{reg_eq}
 use Rattle.po_model.specs.declared.var.Var.{Var}
 use Rattle.po_model.specs.declared.var.Var.TheVariants.{Reg, Cc}
-use Rattle.po_model.specs.Blocks.{PlainInstr}
-use Rattle.po_model.specs.Parts.{plainly, right_at, cc_of, store_of, ending_of}
-use Rattle.po_model.specs.Effect.{Word, by_cc, new_word, new_memory, new_cc, goes, arguments, Called, Returned}
+use Rattle.po_model.specs.Parts.{code_leaves, right_at, cc_of, store_of, ending_of}
+use Rattle.po_model.specs.Effect.{by_cc, new_word, new_memory, new_cc, goes, arguments, Called, Returned}
 use Rattle.po_model.specs.LiveAfter.{term_reads, move_reads, reads, is_reg, is_arg_of}
 use Rattle.po_model.specs.Placed.{place_of, placed_leaf, placed_instr}
 use Rattle.po_model.specs.UnitCodes.{written}
@@ -27,7 +26,7 @@ reg_same Rv = refl
 reg_same (Arg n) = eq-eqb n n refl
 
 -- a term with each register replaced by its place
-abbrev pub placed_word : (ℕ → ℕ) → Word → Word
+abbrev pub placed_word : (ℕ → ℕ) → PlainTerm → PlainTerm
 placed_word at t = tree_map (λ c. c) (placed_leaf at) t
 
 -- no other one of these virtual registers has the place of r
@@ -43,7 +42,7 @@ Separate at (Virt v) (Virt w) = at v ≡ at w → v ≡ w
 Separate at r q = ⊤
 
 -- of the first set of an instruction, and of those behind it
-apart_first : (at : ℕ → ℕ) (r q : Register) (u : Word) (ms : PlainInstr) → ApartFrom at r (written (SetTo q u ∷ ms)) → Separate at r q
+apart_first : (at : ℕ → ℕ) (r q : Register) (u : PlainTerm) (ms : PlainInstr) → ApartFrom at r (written (SetTo q u ∷ ms)) → Separate at r q
 apart_first at (Virt v) (Virt w) u ms h = h w (0, omega arith, refl)
 apart_first at (Virt v) Fp u ms h = tt
 apart_first at (Virt v) Rv u ms h = tt
@@ -52,7 +51,7 @@ apart_first at Fp q u ms h = tt
 apart_first at Rv q u ms h = tt
 apart_first at (Arg k) q u ms h = tt
 
-apart_later : (at : ℕ → ℕ) (r q : Register) (u : Word) (ms : PlainInstr) → ApartFrom at r (written (SetTo q u ∷ ms)) → ApartFrom at r (written ms)
+apart_later : (at : ℕ → ℕ) (r q : Register) (u : PlainTerm) (ms : PlainInstr) → ApartFrom at r (written (SetTo q u ∷ ms)) → ApartFrom at r (written ms)
 apart_later at (Virt v) (Virt w) u ms h = λ z c. h z (suc c.0, omega (arith, c.1), c.2)
 apart_later at (Virt v) Fp u ms h = h
 apart_later at (Virt v) Rv u ms h = h
@@ -88,7 +87,7 @@ place_alike at (Arg j) Rv h = refl
 place_alike at (Arg j) (Arg k) h = refl
 
 -- no instruction sets a symbol's address
-pub symbol_stays : (y : Sym) (x : PlainInstr) → right_at plainly (AtSym y) x ≡ None
+pub symbol_stays : (y : Sym) (x : PlainInstr) → right_at code_leaves (AtSym y) x ≡ None
 symbol_stays y [] = refl
 symbol_stays y (SetTo r u ∷ ms) = symbol_stays y ms
 symbol_stays y (CcTo u w ∷ ms) = symbol_stays y ms
@@ -120,7 +119,7 @@ module _ (at : ℕ → ℕ) (s t : State) where
 
   module _ (memory : (a : ℕ) → s.memory a ≡ t.memory a) (symbols : (y : Sym) → s.place (AtSym y) ≡ t.place (AtSym y)) where
     -- a placed term has the term's word
-    pub value_placed : (x : Word) → HoldsWhere (term_reads x) → value s x ≡ value t (placed_word at x)
+    pub value_placed : (x : PlainTerm) → HoldsWhere (term_reads x) → value s x ≡ value t (placed_word at x)
     value_placed (Const c) h = refl
     value_placed (Leaf (InReg r)) h = h (Reg r) (reg_same r)
     value_placed (Leaf (AtSym y)) h = symbols y
@@ -172,16 +171,16 @@ module _ (at : ℕ → ℕ) (s t : State) where
     goes_placed (Ends e ∷ ms) h = ending_placed e ms (first_reads (Ends e) ms h)
 
     -- a register is set alike, where no other one that is set has its place, or is as it was
-    pub word_placed : (r : Register) (x : PlainInstr) (a b : ℕ) → HoldsWhere (reads x) → ApartFrom at r (written x) → (right_at plainly (InReg r) x ≡ None → a ≡ b)
-        → new_word s (right_at plainly (InReg r) x) a ≡ new_word t (right_at plainly (InReg (place_of at r)) (placed_instr at x)) b
+    pub word_placed : (r : Register) (x : PlainInstr) (a b : ℕ) → HoldsWhere (reads x) → ApartFrom at r (written x) → (right_at code_leaves (InReg r) x ≡ None → a ≡ b)
+        → new_word s (right_at code_leaves (InReg r) x) a ≡ new_word t (right_at code_leaves (InReg (place_of at r)) (placed_instr at x)) b
     word_placed r [] a b h apart k = k refl
     word_placed r (SetTo q u ∷ ms) a b h apart k =
         let others = word_placed r ms a b (later_reads (SetTo q u) ms h) (apart_later at r q u ms apart) in
         rw (place_alike at r q (apart_first at r q u ms apart)) (go (reg_eq r q) k others)
       where
-        go : (c : Bool) → ((if c then Some u else right_at plainly (InReg r) ms) ≡ None → a ≡ b)
-            → ((right_at plainly (InReg r) ms ≡ None → a ≡ b) → new_word s (right_at plainly (InReg r) ms) a ≡ new_word t (right_at plainly (InReg (place_of at r)) (placed_instr at ms)) b)
-            → new_word s (if c then Some u else right_at plainly (InReg r) ms) a ≡ new_word t (if c then Some (placed_word at u) else right_at plainly (InReg (place_of at r)) (placed_instr at ms)) b
+        go : (c : Bool) → ((if c then Some u else right_at code_leaves (InReg r) ms) ≡ None → a ≡ b)
+            → ((right_at code_leaves (InReg r) ms ≡ None → a ≡ b) → new_word s (right_at code_leaves (InReg r) ms) a ≡ new_word t (right_at code_leaves (InReg (place_of at r)) (placed_instr at ms)) b)
+            → new_word s (if c then Some u else right_at code_leaves (InReg r) ms) a ≡ new_word t (if c then Some (placed_word at u) else right_at code_leaves (InReg (place_of at r)) (placed_instr at ms)) b
         go true k others = value_placed u (first_reads (SetTo q u) ms h)
         go false k others = others k
     word_placed r (CcTo u w ∷ ms) a b h apart k = word_placed r ms a b (later_reads (CcTo u w) ms h) apart k

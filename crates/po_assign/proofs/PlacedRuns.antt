@@ -2,8 +2,7 @@
 use Rattle.std.proofs.Common.{◌≡◌, ℕ, zero, suc, Bool, List, [], refl, sym, subst, arith}
 use Rattle.std.specs.Prelude.{All, Option, Some, None}
 use Rattle.po_term.specs.declared.term.Reg.{Reg as Register}
-use Rattle.po_term.specs.declared.term.Reg.TheVariants.{Virt, Fp, Rv, Arg}
-use Rattle.po_term.specs.Terms.{InReg, State}
+use Rattle.po_term.specs.Terms.{State}
 use Rattle.po_term.specs.Form.{WellFormed}
 use Rattle.po_model.specs.declared.machine.Machine.{Machine}
 use Rattle.po_model.specs.declared.var.Var.{Var}
@@ -12,10 +11,10 @@ use Rattle.po_model.specs.Blocks.{PlainBlock, instrs_at, EndsLast}
 use Rattle.po_model.specs.Effect.{Next}
 use Rattle.po_model.specs.LiveAfter.{IsLive}
 use Rattle.po_model.specs.Placed.{place_of, placed_at, placed_doings}
-use Rattle.po_model.specs.Run.{Doing, Run, Reply, Stop, Before, Behind, starts, run_block, and_run, run_blocks, own_doings, LiveWhere, StartAlike, Same, SameResult, ResultKept}
+use Rattle.po_model.specs.Run.{Doing, Run, Reply, Stop, Before, Behind, starts, run_block, and_run, run_blocks, own_doings, LiveWhere, AlikeAtStart, Same, SameResult}
 use Rattle.po_model.specs.UnitCodes.{ReadsBehind}
 use Rattle.po_assign.specs.PlacedRuns.{PlacedRunsAlike}
-use Rattle.po_assign.proofs.Boundary.{AreBehind, none_at_start}
+use Rattle.po_assign.proofs.Boundary.{AreBehind}
 use Rattle.po_assign.proofs.PlacedReads.{Holds}
 use Rattle.po_assign.proofs.PlacedSteps.{Agree, PlacesApart, KeepCc, block_ended}
 use Rattle.po_assign.proofs.PlacedLeaving.{leave_ended}
@@ -64,36 +63,26 @@ module _ (m : Machine) (at : ℕ → ℕ) (code : List PlainBlock) (live : ℕ �
       both_alike (run_blocks code (own_doings code) n) (run_blocks code placed n) (run_block code (own_doings code) x.at x) (run_block code placed y.at y)
       (λ x y a. runs_alike n x y a) (next_alike x y a)
 
--- at the start of the code no virtual register is live, and fixed registers agree
-start_places : (code : List PlainBlock) (at : ℕ → ℕ) (s t : State) → AreBehind code → StartAlike code s t → (r : Register)
-    → IsLive code (Reg r) (record { block = 0; rest = instrs_at code 0 }) → s.place (InReg r) ≡ t.place (InReg (place_of at r))
-start_places code at s t behind a (Virt v) l = absurd (none_at_start code behind v 0 l)
-start_places code at s t behind a Fp l = a.fixed Fp tt
-start_places code at s t behind a Rv l = a.fixed Rv tt
-start_places code at s t behind a (Arg k) l = a.fixed (Arg k) tt
-
-start_same : (code : List PlainBlock) (at : ℕ → ℕ) (s t : State) (replies : List Reply) → AreBehind code → StartAlike code s t → Same code (place_of at) (starts s replies) (starts t replies)
-start_same code at s t replies behind a = record {
+-- starts that can't be told apart with no replies to come can't be with these
+start_same : (code : List PlainBlock) (place : Register → Register) (s t : State) (replies : List Reply)
+    → AlikeAtStart code place s t → Same code place (starts s replies) (starts t replies)
+start_same code place s t replies a = record {
   stop = refl;
   calls = refl;
   replies = refl;
-  memory = a.memory;
-  symbols = a.symbols;
-  places = start_places code at s t behind a;
-  compared = a.compared;
+  memory = a.same.memory;
+  symbols = a.same.symbols;
+  places = a.same.places;
+  compared = a.same.compared;
 }
 
-result_kept : (code : List PlainBlock) (at : Register → Register) (o p : Option Run) → SameResult code at o p → ResultKept code at o p
-result_kept code at None p h = tt
-result_kept code at (Some x) None h = h
-result_kept code at (Some x) (Some y) h = h
-
 pub placed_runs : PlacedRunsAlike
-placed_runs m code live ends formed straight un tells n s t replies a fits =
+placed_runs m code live form straight un tells n s t replies a fits =
     let at = placed_at m code in
     let behind : AreBehind code = each_block (λ is. ReadsBehind [] is) tt code straight.behind in
-    let last : (b : ℕ) → EndsLast (instrs_at code b) = each_block EndsLast tt code ends in
-    let words : (b : ℕ) → All WellFormed (instrs_at code b) = each_block (All WellFormed) (λ k d l. absurd (omega arith)) code formed in
-    result_kept code (place_of at) (run_blocks code (own_doings code) n (starts s replies)) (run_blocks code (placed_doings m at code live) n (starts t replies))
-    (runs_alike m at code live last words behind (places_apart m code un straight.once) (keeps_cc m at code live tells) n (starts s replies) (starts t replies)
-    (start_same code at s t replies behind a))
+    let last : (b : ℕ) → EndsLast (instrs_at code b) = each_block EndsLast tt code form.ends_last in
+    let words : (b : ℕ) → All WellFormed (instrs_at code b) =
+    each_block (All WellFormed) (λ k d l. absurd (omega arith)) code form.formed in
+    runs_alike m at code live last words behind (places_apart m code un straight.once)
+    (keeps_cc m at code live tells) n (starts s replies) (starts t replies)
+    (start_same code (place_of at) s t replies a)

@@ -6,14 +6,14 @@ use Rattle.po_term.specs.declared.term.Reg.{Reg as Register}
 use Rattle.po_term.specs.declared.term.Reg.TheVariants.{Virt, Fp, Rv, Arg}
 use Rattle.po_term.specs.declared.term.Sym.{Sym}
 use Rattle.po_term.specs.Terms.{Place, InReg, AtSym, State}
-use Rattle.po_term.specs.Moves.{Ending, SetTo, CcTo, StoreTo, Ends}
+use Rattle.po_term.specs.Moves.{Ending, PlainInstr}
 use Rattle.po_term.specs.Form.{WellFormed}
 use Rattle.po_model.specs.declared.machine.Machine.{Machine}
 use Rattle.po_model.specs.declared.var.Var.{Var}
 use Rattle.po_model.specs.declared.var.Var.TheVariants.{Reg, Cc}
-use Rattle.po_model.specs.Blocks.{PlainInstr, PlainBlock, ending_of as control_of, block_ending, EndsLast}
+use Rattle.po_model.specs.Blocks.{PlainBlock, block_ending, EndsLast}
 use Rattle.po_model.specs.Parts.{cc_of, ending_of}
-use Rattle.po_model.specs.Effect.{Control, Next, Jump, Called, Returned, Done, new_cc, after, goes, effect}
+use Rattle.po_model.specs.Effect.{Control, Next, Jump, Called, Returned, Effected, new_cc, after, goes, effect}
 use Rattle.po_model.specs.Fit.{fit}
 use Rattle.po_model.specs.LiveAfter.{reads, sets, IsLive}
 use Rattle.po_model.specs.Run.{Doing, and_on, in_turn}
@@ -76,7 +76,7 @@ module _ (m : Machine) (at : ℕ → ℕ) (code : List PlainBlock) where
     }
 
   -- neither has an effect, or both have one: control goes to one place, from a block with this ending, and the states agree behind it
-  abbrev pub Ended : ℕ → Option (Ending ℕ Place Sym) → Option Done → Option Done → Type 0
+  abbrev pub Ended : ℕ → Option (Ending ℕ Place Sym) → Option Effected → Option Effected → Type 0
   Ended b e None None = ⊤
   Ended b e None (Some f) = ⊥
   Ended b e (Some d) None = ⊥
@@ -84,11 +84,11 @@ module _ (m : Machine) (at : ℕ → ℕ) (code : List PlainBlock) where
 
   module _ (b : ℕ) (e : Option (Ending ℕ Place Sym)) (s' t' : State) (clobbers : Bool) where
     -- what comes of an instruction, by where its control goes
-    abbrev done_first : Option Control → Option Done
+    abbrev done_first : Option Control → Option Effected
     done_first o = option_map (λ c. record { state = s'; to = c }) o
 
-    abbrev done_placed : Option Control → Option Done
-    done_placed p = option_map (λ (d : Done). record { state = unless_clobbered clobbers d.state; to = d.to }) (option_map (λ c. record { state = t'; to = c }) p)
+    abbrev done_placed : Option Control → Option Effected
+    done_placed p = option_map (λ (d : Effected). record { state = unless_clobbered clobbers d.state; to = d.to }) (option_map (λ c. record { state = t'; to = c }) p)
 
     -- where both go on to the next instruction
     on_next : (o p : Option Control) (go go' : Doing) → o ≡ Some Next → p ≡ Some Next → Ended b e (go s') (go' (unless_clobbered clobbers t')) → Ended b e (and_on go (done_first o)) (and_on go' (done_placed p))
@@ -110,16 +110,8 @@ module _ (m : Machine) (at : ℕ → ℕ) (code : List PlainBlock) where
         let both = h c refl in
         subst (λ d. Ended b e (and_on (in_turn []) (done_first (Some c))) (and_on (in_turn []) (done_placed (Some d)))) same (last_to c both.0 both.1)
 
-  -- an instruction has one transfer of control by both definitions
-  controls_same : (x : PlainInstr) → control_of x ≡ ending_of x
-  controls_same [] = refl
-  controls_same (SetTo r t ∷ ms) = controls_same ms
-  controls_same (CcTo t u ∷ ms) = controls_same ms
-  controls_same (StoreTo t u ∷ ms) = controls_same ms
-  controls_same (Ends e ∷ ms) = refl
-
-  goes_next : (s : State) (x : PlainInstr) → control_of x ≡ None → goes s (ending_of x) ≡ Some Next
-  goes_next s x e = ap (λ o. goes s o) (sym (controls_same x) ∙ e)
+  goes_next : (s : State) (x : PlainInstr) → ending_of x ≡ None → goes s (ending_of x) ≡ Some Next
+  goes_next s x e = ap (λ o. goes s o) e
 
   -- what is live behind an instruction has a place of its own
   live_apart : AreBehind code → (b : ℕ) (set : List ℕ) (x : PlainInstr) (xs : List PlainInstr) → ReadsBehind (set ++ written x) xs
@@ -138,10 +130,10 @@ module _ (m : Machine) (at : ℕ → ℕ) (code : List PlainBlock) where
   block_ended behind b live (x ∷ []) i set s t last formed reading apart keeps a =
       let clobbers = found_clobbers m (fit m (live i) x) in
       let once = ends_once x (formed 0 x (omega arith)).pairs in
-      last_ended b (control_of x) (after s x) (after t (placed_instr at x)) clobbers (goes s (ending_of x)) (goes t (ending_of (placed_instr at x)))
+      last_ended b (ending_of x) (after s x) (after t (placed_instr at x)) clobbers (goes s (ending_of x)) (goes t (ending_of (placed_instr at x)))
       (goes_placed at s t a.memory a.symbols x (λ v e. a.live v refl (inr ([], e))))
       (λ c to. (
-        subst (λ e. Comes code e c) (sym (controls_same x)) (comes_of code s (ending_of x) c to),
+        comes_of code s (ending_of x) c to,
         agree_after b x [] once clobbers s t c to (live_apart behind b set x [] reading.1 apart.0) keeps.0 a,
       ))
   block_ended behind b live (x ∷ y ∷ ys) i set s t last formed reading apart keeps a =

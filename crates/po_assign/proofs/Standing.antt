@@ -6,7 +6,7 @@ use Rattle.std.proofs.lemmas.List.{length-set, get_or-replicate, length-replicat
 use Rattle.std.proofs.lemmas.List.Sums.{sum_by-set, sum_by-cons, count_by-le-length}
 use Rattle.std.proofs.lemmas.List.Elements.{All-push}
 use Rattle.std.proofs.lemmas.Grind.{reverse_onto}
-use Rattle.po_model.specs.Placement.{Interval, PlacedInterval, contains, count_at, IsUncrowded, IsCrowded, is_taken, lowest_from, place_from, pair_of, AreApart}
+use Rattle.po_model.specs.Placement.{Interval, PlacedInterval, contains, count_at, IsUncrowded, IsCrowded, is_taken, lowest_from, place_from, assigned, AreApart}
 use Rattle.po_assign.specs.declared.spans.Span.{Span}
 use Rattle.po_assign.specs.Spans.{interval_from, Rising}
 
@@ -83,7 +83,7 @@ pub record Standing (n : ℕ) (all left : List Interval) (ends : List ℕ) (regs
   pub taken : (q r : ℕ) → now ≤ q → r < n → is_taken done q r ≡ nat_le q (get_or ends r 0)
   pub counted : (q : ℕ) → now ≤ q → count_at (map (λ d. d.interval) done) q ≡ reaching q ends
   pub past : (q : ℕ) → q < now → count_at (map (λ d. d.interval) done) q ≤ n
-  pub pairs : regs ≡ reverse (map pair_of done)
+  pub pairs : regs ≡ reverse (map assigned done)
   pub below : All (λ x. x.1 < n) regs
   pub early : (k : ℕ) (d : PlacedInterval) → k < length done → (get_or done k d).interval.start ≤ now
   pub apart : AreApart done
@@ -203,7 +203,7 @@ standing_step n all i left ends regs r st small free busy =
       counted = λ q h. count-cons (λ (j : Interval). contains j q) i js ∙
           rw (contains_from i q h, st.counted q (omega arith)) (sym (reaching_set ends r q i.finish small (omega arith)));
       past = λ q h. past_next n i js ends st.now q held h (st.counted q) (st.past q);
-      pairs = rw st.pairs (sym (reverse_onto (map pair_of st.done) (i.register, r) []));
+      pairs = rw st.pairs (sym (reverse_onto (map assigned st.done) (i.register, r) []));
       below = All-push (λ (x : ℕ × ℕ). x.1 < n) regs (i.register, r) st.below (omega arith);
       early = early_next i r st.done st.now early st.early;
       apart = apart_next i r st.done st.now early open_r st.early st.apart;
@@ -217,7 +217,7 @@ standing_uncrowded n all ends regs st q =
       | inr h ↦ omega (arith, st.total q, st.counted q h, count_by-le-length (λ (e : ℕ). nat_le q e) ends)
     ]
 
-pub standing_pairs : (n : ℕ) (all : List Interval) (ends : List ℕ) (regs : List (ℕ × ℕ)) → Standing n all [] ends regs → regs ≡ reverse (map pair_of (place_from n [] all))
+pub standing_pairs : (n : ℕ) (all : List Interval) (ends : List ℕ) (regs : List (ℕ × ℕ)) → Standing n all [] ends regs → regs ≡ reverse (map assigned (place_from n [] all))
 standing_pairs n all ends regs st = rw (← st.follows) st.pairs
 
 -- where no register is free, the point is in an interval for each, and in those that start there

@@ -2,7 +2,7 @@
 use Rattle.std.proofs.Common.{◌≡◌, ℕ, ◌+◌, ◌<◌, ◌≤◌, List, [], ◌∷◌, ◌++◌, length, get_or, set, drop, map, reverse, sym, subst, ap, ◌∙◌, arith}
 use Rattle.std.specs.List.{All, count_by}
 use Rattle.std.specs.Prelude.{◌==◌}
-use Rattle.po_model.specs.Placement.{Interval, count_at, IsCrowded, IsUncrowded, place_from, pair_of}
+use Rattle.po_model.specs.Placement.{Interval, count_at, IsCrowded, IsUncrowded, place_from, assigned}
 use Rattle.po_assign.specs.declared.spans.Span.{Span}
 use Rattle.po_assign.specs.Spans.{interval_from}
 use Rattle.po_assign.proofs.Lists.{next_at, behind_all}
@@ -32,7 +32,7 @@ placed_turn n xs p ends regs after d s r h e st small free busy pushed =
     rw pushed (standing_step n (seen xs) (interval_from s) (seen (drop (p + 1) xs)) ends regs r at small free busy)
 
 pub last_turn : (n : ℕ) (xs : List Span) (p : ℕ) (ends : List ℕ) (regs : List (ℕ × ℕ)) → length xs ≤ p → Standing n (seen xs) (seen (drop p xs)) ends regs →
-    IsUncrowded n (seen xs) × (regs ≡ reverse (map pair_of (place_from n [] (seen xs)))) × All (λ x. x.1 < n) regs
+    IsUncrowded n (seen xs) × (regs ≡ reverse (map assigned (place_from n [] (seen xs)))) × All (λ x. x.1 < n) regs
 last_turn n xs p ends regs h st =
     let at = subst (λ (ss : List Span). Standing n (seen xs) (seen ss) ends regs) (behind_all xs p h) st in
     (standing_uncrowded n (seen xs) ends regs at, standing_pairs n (seen xs) ends regs at, at.below)

@@ -1,12 +1,6 @@
 -- The last reads of the virtual registers, as the code keeps them.
-use Rattle.std.specs.Prelude.{ℕ, nat_eq, unwrap_or}
-use Rattle.std.specs.declared.hash.FoldHasher.{FoldHasher}
-use Rattle.std.specs.declared.hash.BuildHasherDefault.{BuildHasherDefault}
-use Rattle.std.specs.HashMap.{get, HashMap}
-
-abbrev pub LastReads : Type 0
-LastReads = HashMap ℕ ℕ (BuildHasherDefault FoldHasher)
+use Rattle.std.specs.Prelude.{ℕ, List, slice_get, unwrap_or}
 
 -- the last read of a register so far, and 0 where there is none
-abbrev pub read_at : LastReads → ℕ → ℕ
-read_at m v = unwrap_or (get nat_eq m v) 0
+abbrev pub read_at : List ℕ → ℕ → ℕ
+read_at m v = unwrap_or (slice_get m v) 0

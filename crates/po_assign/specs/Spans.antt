@@ -1,9 +1,9 @@
 -- The intervals of a code as the code keeps them.
 use Rattle.std.specs.Prelude.{ℕ, suc, ◌+◌, ◌*◌, ◌≤◌, ⊤, max, List, [], ◌∷◌, ◌++◌, map}
-use Rattle.po_model.specs.Blocks.{PlainInstr}
 use Rattle.po_model.specs.UnitCodes.{written}
 use Rattle.po_model.specs.Placement.{Interval}
 use Rattle.po_assign.specs.declared.spans.Span.{Span}
+use Rattle.po_term.specs.Moves.{PlainInstr}
 
 abbrev pub interval_from : Span → Interval
 interval_from s = record { register = s.register; start = s.start; finish = s.finish }

@@ -12,27 +12,27 @@ ghost use Rattle.po_model.specs.UnitCodes.{flat};
 ghost use Rattle.po_model.specs.Placement.{last_read};
 ghost use Rattle.po_assign.specs.Reads.{read_at};
 
+use crate::numbered::put_at;
 use po_model::Block;
 use po_term::{Cond, Instr, Reg, Term, Transfer};
 use po_word::OutOfMemory;
 use std::alloc::Global;
-use std::collections::HashMap;
 
-/// The point of the last read of each virtual register that is read, by its number.
-pub type LastReads = HashMap<u32, u32>;
-
-fn note_register(last: &mut LastReads, point: u32, reg: Reg) -> Result<(), OutOfMemory>
-    ensures { OnOk result ((v : ℕ) → read_at last.new v ≡ (if is_reg reg (RegVar (Virt v)) then point else read_at last.old v)) }
+fn note_register(last: &mut Vec<u32>, point: u32, reg: Reg) -> Result<(), OutOfMemory>
+    ensures { OnOk result ((v : ℕ) →
+        read_at last.new.items v ≡ (if is_reg reg (RegVar (Virt v)) then point else read_at last.old.items v)) }
 {
     if let Reg::Virt(number) = reg {
-        last.insert(number, point)?;
+        put_at(last, number, point)?;
     }
     Ok(())
 }
 
 /// Notes the registers of a term. It recurses as deep as the term is.
-fn note_term(last: &mut LastReads, point: u32, t: &Term) -> Result<(), OutOfMemory>
-    ensures { OnOk result ((v : ℕ) → read_at last.new v ≡ (if term_reads (tree_of t.now) (RegVar (Virt v)) then point else read_at last.old v)) }
+fn note_term(last: &mut Vec<u32>, point: u32, t: &Term) -> Result<(), OutOfMemory>
+    ensures { OnOk result ((v : ℕ) →
+        read_at last.new.items v ≡
+        (if term_reads (tree_of t.now) (RegVar (Virt v)) then point else read_at last.old.items v)) }
 {
     match t {
         Term::Num(_) => Ok(()),
@@ -47,15 +47,19 @@ fn note_term(last: &mut LastReads, point: u32, t: &Term) -> Result<(), OutOfMemo
     }
 }
 
-fn note_two(last: &mut LastReads, point: u32, x: &Term, y: &Term) -> Result<(), OutOfMemory>
-    ensures { OnOk result ((v : ℕ) → read_at last.new v ≡ (if term_reads (tree_of x.now) (RegVar (Virt v)) || term_reads (tree_of y.now) (RegVar (Virt v)) then point else read_at last.old v)) }
+fn note_two(last: &mut Vec<u32>, point: u32, x: &Term, y: &Term) -> Result<(), OutOfMemory>
+    ensures { OnOk result ((v : ℕ) →
+        read_at last.new.items v ≡
+        (if term_reads (tree_of x.now) (RegVar (Virt v)) || term_reads (tree_of y.now) (RegVar (Virt v)) then point else read_at last.old.items v)) }
 {
     note_term(last, point, x)?;
     note_term(last, point, y)
 }
 
-fn note_transfer(last: &mut LastReads, point: u32, t: &Transfer) -> Result<(), OutOfMemory>
-    ensures { OnOk result ((v : ℕ) → read_at last.new v ≡ (if move_reads (move_of t.now) (RegVar (Virt v)) then point else read_at last.old v)) }
+fn note_transfer(last: &mut Vec<u32>, point: u32, t: &Transfer) -> Result<(), OutOfMemory>
+    ensures { OnOk result ((v : ℕ) →
+        read_at last.new.items v ≡
+        (if move_reads (move_of t.now) (RegVar (Virt v)) then point else read_at last.old.items v)) }
 {
     match t {
         Transfer::Set(_, x) => note_term(last, point, x),
@@ -69,8 +73,10 @@ fn note_transfer(last: &mut LastReads, point: u32, t: &Transfer) -> Result<(), O
     }
 }
 
-fn note_instr(last: &mut LastReads, point: u32, xs: &[Transfer]) -> Result<(), OutOfMemory>
-    ensures { OnOk result ((v : ℕ) → read_at last.new v ≡ (if reads (moves_of xs.now) (RegVar (Virt v)) then point else read_at last.old v)) }
+fn note_instr(last: &mut Vec<u32>, point: u32, xs: &[Transfer]) -> Result<(), OutOfMemory>
+    ensures { OnOk result ((v : ℕ) →
+        read_at last.new.items v ≡
+        (if reads (moves_of xs.now) (RegVar (Virt v)) then point else read_at last.old.items v)) }
 {
     for t in xs {
         note_transfer(last, point, t)?;
@@ -79,9 +85,10 @@ fn note_instr(last: &mut LastReads, point: u32, xs: &[Transfer]) -> Result<(), O
 }
 
 /// Notes the reads of the instructions of a block, whose first one has the number `first`.
-fn note_block(last: &mut LastReads, first: u32, xs: &[Instr]) -> Result<(), OutOfMemory>
+fn note_block(last: &mut Vec<u32>, first: u32, xs: &[Instr]) -> Result<(), OutOfMemory>
     requires { first + length xs.now < 2 ^ 29 }
-    ensures { OnOk result ((v : ℕ) → read_at last.new v ≡ last_read v (read_at last.old v) first (instrs_of xs.now)) }
+    ensures { OnOk result ((v : ℕ) →
+        read_at last.new.items v ≡ last_read v (read_at last.old.items v) first (instrs_of xs.now)) }
 {
     for (index, x) in xs.iter().enumerate() {
         note_instr(last, 2 * (first + index as u32), &x.xs)?;
@@ -89,12 +96,12 @@ fn note_block(last: &mut LastReads, first: u32, xs: &[Instr]) -> Result<(), OutO
     Ok(())
 }
 
-/// The last read of each virtual register of a code.
-pub fn last_reads(alloc: Global, blocks: &[Block]) -> Result<LastReads, OutOfMemory>
+/// The point of the last read of each virtual register of a code, by its number, and 0 where it isn't read.
+pub fn last_reads(alloc: Global, blocks: &[Block]) -> Result<Vec<u32>, OutOfMemory>
     requires { length (flat (map block_of blocks.now)) < 2 ^ 29 }
-    ensures { IfOk result (λ last. (v : ℕ) → read_at last v ≡ last_read v 0 0 (flat (map block_of blocks.now))) }
+    ensures { IfOk result (λ last. (v : ℕ) → read_at last.items v ≡ last_read v 0 0 (flat (map block_of blocks.now))) }
 {
-    let mut last = HashMap::new(alloc);
+    let mut last = Vec::new(alloc);
     let mut first = 0;
     for block in blocks {
         note_block(&mut last, first, &block.instrs)?;

@@ -6,7 +6,6 @@ ghost use Rattle.po_model.specs.UnitCodes.{written, flat};
 ghost use Rattle.po_assign.specs.Reads.{read_at};
 ghost use Rattle.po_assign.specs.Spans.{span_at, spans_from};
 
-use crate::reads::LastReads;
 use po_model::Block;
 use po_term::{Instr, Reg, Transfer};
 use po_word::OutOfMemory;
@@ -21,10 +20,10 @@ pub struct Span {
 }
 
 /// The span of a register that is set at a point.
-fn made_span(last: &LastReads, start: u32, register: u32) -> Span
+fn made_span(last: &[u32], start: u32, register: u32) -> Span
     ensures { result ≡ span_at (read_at last.now) start register }
 {
-    let read = last.get(&register).copied().unwrap_or(0);
+    let read = last.get(register as usize).copied().unwrap_or(0);
     Span {
         register,
         start,
@@ -33,7 +32,7 @@ fn made_span(last: &LastReads, start: u32, register: u32) -> Span
 }
 
 fn push_span(
-    last: &LastReads,
+    last: &[u32],
     start: u32,
     t: &Transfer,
     spans: &mut Vec<Span>,
@@ -47,7 +46,7 @@ fn push_span(
 }
 
 fn push_instr(
-    last: &LastReads,
+    last: &[u32],
     start: u32,
     xs: &[Transfer],
     spans: &mut Vec<Span>,
@@ -62,7 +61,7 @@ fn push_instr(
 
 /// Adds the spans of a block, whose first instruction has the number `first`.
 fn push_block(
-    last: &LastReads,
+    last: &[u32],
     first: u32,
     xs: &[Instr],
     spans: &mut Vec<Span>,
@@ -77,7 +76,7 @@ fn push_block(
 }
 
 /// The spans of a code with these last reads.
-pub fn spans_of(alloc: Global, last: &LastReads, blocks: &[Block]) -> Result<Vec<Span>, OutOfMemory>
+pub fn spans_of(alloc: Global, last: &[u32], blocks: &[Block]) -> Result<Vec<Span>, OutOfMemory>
     requires { length (flat (map block_of blocks.now)) < 2 ^ 29 }
     ensures { IfOk result (λ spans. spans.items ≡ spans_from (read_at last.now) 0 (flat (map block_of blocks.now))) }
 {

@@ -1,10 +1,11 @@
 //! From a unit's code to its placement.
 ghost use Rattle.std.specs.Prelude.{◌≡◌, ◌≤◌, ◌<◌, ◌^◌, ℕ, List, map, IfOk, IfErr, All, length};
-ghost use Rattle.po_model.specs.Blocks.{PlainInstr, block_of, code_of};
-ghost use Rattle.po_model.specs.UnitCodes.{unit_of, flat, IsUnitCode};
+ghost use Rattle.po_model.specs.Blocks.{block_of, code_of};
+ghost use Rattle.po_model.specs.UnitCodes.{flat, IsPlaceable};
 ghost use Rattle.po_model.specs.Placement.{intervals, registers, placement, IsUncrowded, AreApart};
 ghost use Rattle.po_assign.specs.Refusals.{Refuses};
 ghost use Rattle.po_assign.specs.Places.{Places};
+ghost use Rattle.po_term.specs.Moves.{PlainInstr};
 
 use crate::place::{Placing, place_spans};
 use crate::reads::last_reads;
@@ -30,16 +31,16 @@ pub(crate) fn place_code(
     place_spans(alloc, count, &spans)
 }
 
-/// Gives each virtual register of a unit's code a machine register: the lowest that no earlier interval has at the start of its own.
-/// `TooFew` comes exactly where some point lies in more intervals than there are machine registers; it has the first such point and the
-/// number of intervals there (docs/LANGUAGE.md, "Placement").
+/// Gives each virtual register of a unit's code a machine register: the lowest that no earlier interval has at the
+/// start of its own. `TooFew` comes exactly where some point lies in more intervals than there are machine registers;
+/// it has the first such point and the number of intervals there (docs/LANGUAGE.md, "Placement").
 ///
-/// The machine has at most 64 registers, and the code is as `expand` and the passes give it: its instructions are well formed, and a
-/// control transfer stands only in the last one of a block; each virtual register is set at most once, and read only by later
-/// instructions of the block that sets it; each label and symbol has its name; and there are fewer than 2^29 instructions and fewer
-/// than 2^32 blocks.
+/// The machine has at most 64 registers, and the code is as `expand` and the passes give it: its instructions are well
+/// formed, and a control transfer stands only in the last one of a block; each virtual register is set at most once, and
+/// read only by later instructions of the block that sets it; and there are fewer than 2^29 instructions and fewer than
+/// 2^32 blocks. Its labels and symbols need no names.
 pub fn assign(alloc: Global, m: &Machine, u: UnitCode) -> Result<Placed, AssignRefusal>
-    requires code { IsUnitCode (unit_of u) }
+    requires code { IsPlaceable (code_of u.code) }
     requires few { length m.now.regs ≤ 64 }
     ensures unit { IfOk result (λ p. p.unit ≡ u) }
     ensures regs { IfOk result (λ p. p.regs.items ≡ registers (length m.now.regs) (flat (code_of u.code))) }

@@ -2,3 +2,4 @@ pub mod Lists
 pub mod Flags
 pub mod Operands
 pub mod Turns
+pub mod Starts

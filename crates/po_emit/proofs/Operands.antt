@@ -10,7 +10,7 @@ use Rattle.po_model.specs.declared.machine.Machine.{Machine}
 use Rattle.po_model.specs.declared.machine.Entry.{Entry}
 use Rattle.po_model.specs.declared.machine.Piece.{Piece}
 use Rattle.po_model.specs.declared.machine.Piece.TheVariants.{Byte, Reg, Num, Label, Sym}
-use Rattle.po_model.specs.Fit.{Found, Thing, ARegister, AConstant, ASymbol, ALabel, places, operand_of}
+use Rattle.po_model.specs.Fit.{Found, Thing, ARegister, AConstant, ASymbol, ALabel, operand_of}
 use Rattle.po_model.specs.UnitCodes.{PlainUnit}
 use Rattle.po_model.specs.Assembly as model
 use Rattle.po_recog.specs.declared.answer.Operand.{Operand}
@@ -37,16 +37,16 @@ module _ (m : Machine) (at : ℕ → ℕ) (u : PlainUnit) where
   no_digit k false e = refl
 
   operand_same : (fs : Places) (k : ℕ) → operand_text m at u (slot_at (operands_in fs) k) ≡ model.operand_text m at u fs k
-  operand_same fs zero = thing_same (operand_of places 0 fs)
-  operand_same fs (suc zero) = thing_same (operand_of places 1 fs)
-  operand_same fs (suc (suc zero)) = thing_same (operand_of places 2 fs)
-  operand_same fs (suc (suc (suc zero))) = thing_same (operand_of places 3 fs)
-  operand_same fs (suc (suc (suc (suc zero)))) = thing_same (operand_of places 4 fs)
-  operand_same fs (suc (suc (suc (suc (suc zero))))) = thing_same (operand_of places 5 fs)
-  operand_same fs (suc (suc (suc (suc (suc (suc zero)))))) = thing_same (operand_of places 6 fs)
-  operand_same fs (suc (suc (suc (suc (suc (suc (suc zero))))))) = thing_same (operand_of places 7 fs)
-  operand_same fs (suc (suc (suc (suc (suc (suc (suc (suc zero)))))))) = thing_same (operand_of places 8 fs)
-  operand_same fs (suc (suc (suc (suc (suc (suc (suc (suc (suc zero))))))))) = thing_same (operand_of places 9 fs)
+  operand_same fs zero = thing_same (operand_of 0 fs)
+  operand_same fs (suc zero) = thing_same (operand_of 1 fs)
+  operand_same fs (suc (suc zero)) = thing_same (operand_of 2 fs)
+  operand_same fs (suc (suc (suc zero))) = thing_same (operand_of 3 fs)
+  operand_same fs (suc (suc (suc (suc zero)))) = thing_same (operand_of 4 fs)
+  operand_same fs (suc (suc (suc (suc (suc zero))))) = thing_same (operand_of 5 fs)
+  operand_same fs (suc (suc (suc (suc (suc (suc zero)))))) = thing_same (operand_of 6 fs)
+  operand_same fs (suc (suc (suc (suc (suc (suc (suc zero))))))) = thing_same (operand_of 7 fs)
+  operand_same fs (suc (suc (suc (suc (suc (suc (suc (suc zero)))))))) = thing_same (operand_of 8 fs)
+  operand_same fs (suc (suc (suc (suc (suc (suc (suc (suc (suc zero))))))))) = thing_same (operand_of 9 fs)
   operand_same fs (suc (suc (suc (suc (suc (suc (suc (suc (suc (suc k)))))))))) =
       let n = suc (suc (suc (suc (suc (suc (suc (suc (suc (suc k))))))))) in
       let e : n ≡ 10 + k = omega arith in

@@ -1,10 +1,11 @@
 //! Templates with their operands filled in.
-ghost use Rattle.std.specs.Prelude.{◌≡◌, ◌++◌, ◌∷◌, OnOk};
+ghost use Rattle.std.specs.Prelude.{◌≡◌, ◌++◌, ◌∷◌, OnOk, OnErr};
+ghost use Rattle.std.specs.Io.{StartsWith};
 ghost use Rattle.po_model.specs.UnitCodes.{unit_of};
 ghost use Rattle.po_emit.specs.Regs.{machine_at};
 ghost use Rattle.po_emit.specs.Texts.{slot_at, operand_text, piece_text, filled};
 
-use crate::names::{MachineRegs, name_at, push_label, register_name};
+use crate::names::{name_at, push_label, register_name};
 use itoa::Buffer;
 use po_model::{Machine, Piece, UnitCode};
 use po_recog::Operand;
@@ -21,12 +22,13 @@ fn slot_at(slots: &[Option<Operand>], k: u8) -> Option<Operand>
 /// symbol by its name.
 fn push_operand(
     m: &Machine,
-    regs: &MachineRegs,
+    regs: &[u32],
     u: &UnitCode,
     operand: Option<Operand>,
     out: &mut Vec<u8>,
 ) -> Result<(), OutOfMemory>
-    ensures { OnOk result (out.new.items ≡ out.old.items ++ operand_text m.now (machine_at regs.now) (unit_of u.now) operand) }
+    ensures ok { OnOk result (out.new.items ≡ out.old.items ++ operand_text m.now (machine_at regs.now) (unit_of u.now) operand) }
+    ensures err { OnErr result (StartsWith out.new.items out.old.items) }
 {
     match operand {
         None => {}
@@ -43,13 +45,14 @@ fn push_operand(
 /// Writes a part of a template.
 fn push_piece(
     m: &Machine,
-    regs: &MachineRegs,
+    regs: &[u32],
     u: &UnitCode,
     slots: &[Option<Operand>],
     piece: Piece,
     out: &mut Vec<u8>,
 ) -> Result<(), OutOfMemory>
-    ensures { OnOk result (out.new.items ≡ out.old.items ++ piece_text m.now (machine_at regs.now) (unit_of u.now) slots.now piece) }
+    ensures ok { OnOk result (out.new.items ≡ out.old.items ++ piece_text m.now (machine_at regs.now) (unit_of u.now) slots.now piece) }
+    ensures err { OnErr result (StartsWith out.new.items out.old.items) }
 {
     match piece {
         Piece::Byte(b) => {
@@ -66,13 +69,14 @@ fn push_piece(
 /// Writes a template with its operands filled in.
 pub fn push_filled(
     m: &Machine,
-    regs: &MachineRegs,
+    regs: &[u32],
     u: &UnitCode,
     slots: &[Option<Operand>],
     template: &[Piece],
     out: &mut Vec<u8>,
 ) -> Result<(), OutOfMemory>
-    ensures { OnOk result (out.new.items ≡ out.old.items ++ filled m.now (machine_at regs.now) (unit_of u.now) slots.now template.now) }
+    ensures ok { OnOk result (out.new.items ≡ out.old.items ++ filled m.now (machine_at regs.now) (unit_of u.now) slots.now template.now) }
+    ensures err { OnErr result (StartsWith out.new.items out.old.items) }
 {
     for piece in template {
         push_piece(m, regs, u, slots, *piece, out)?;

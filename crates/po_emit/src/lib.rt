@@ -2,13 +2,13 @@
 //!
 //! `names` has the names of registers, labels and symbols, `fill` the templates, `lines` the lines of instructions and blocks, and
 //! `unit` the whole unit. Everything is written at the end of one buffer, each byte once.
+//!
+//! Its tests stand in `po_code_rows`.
 #![tactic(auto)]
 
 mod fill;
 mod lines;
 mod names;
-#[cfg(test)]
-mod tests;
 mod unit;
 
 pub use unit::emit;

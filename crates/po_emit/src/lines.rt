@@ -1,5 +1,6 @@
 //! The lines of instructions and of blocks.
-ghost use Rattle.std.specs.Prelude.{◌≡◌, ◌++◌, ◌<◌, ◌^◌, ℕ, Bool, OnOk, length, slice_get};
+ghost use Rattle.std.specs.Prelude.{◌≡◌, ◌++◌, ◌<◌, ◌^◌, ℕ, Bool, OnOk, OnErr, length, slice_get};
+ghost use Rattle.std.specs.Io.{StartsWith};
 ghost use Rattle.po_term.specs.Moves.{moves_of, instrs_of};
 ghost use Rattle.po_model.specs.Fit.{fit};
 ghost use Rattle.po_model.specs.UnitCodes.{unit_of};
@@ -10,7 +11,7 @@ ghost use Rattle.po_emit.specs.Regs.{machine_at};
 ghost use Rattle.po_emit.specs.Texts.{filled_from, line_with};
 
 use crate::fill::push_filled;
-use crate::names::{MachineRegs, push_label};
+use crate::names::push_label;
 use po_model::{Block, Machine, UnitCode};
 use po_recog::{Fit, recognise};
 use po_term::{Instr, Label, Transfer};
@@ -23,7 +24,8 @@ pub fn push_label_line(
     label: Option<Label>,
     out: &mut Vec<u8>,
 ) -> Result<(), OutOfMemory>
-    ensures { OnOk result (out.new.items ≡ out.old.items ++ label_line (unit_of u.now) label) }
+    ensures ok { OnOk result (out.new.items ≡ out.old.items ++ label_line (unit_of u.now) label) }
+    ensures err { OnErr result (StartsWith out.new.items out.old.items) }
 {
     if let Some(label) = label {
         push_label(u, label, out)?;
@@ -35,12 +37,13 @@ pub fn push_label_line(
 /// Writes the template of the entry of that number with its operands filled in. Nothing where there is none of that number.
 fn push_entry(
     m: &Machine,
-    regs: &MachineRegs,
+    regs: &[u32],
     u: &UnitCode,
     found: &Fit,
     out: &mut Vec<u8>,
 ) -> Result<(), OutOfMemory>
-    ensures { OnOk result (out.new.items ≡ out.old.items ++ filled_from m.now (machine_at regs.now) (unit_of u.now) found.now.operands.items (slice_get m.now.entries found.now.entry)) }
+    ensures ok { OnOk result (out.new.items ≡ out.old.items ++ filled_from m.now (machine_at regs.now) (unit_of u.now) found.now.operands.items (slice_get m.now.entries found.now.entry)) }
+    ensures err { OnErr result (StartsWith out.new.items out.old.items) }
 {
     match m.entries.as_slice().get(found.entry as usize) {
         Some(entry) => push_filled(m, regs, u, &found.operands, entry.template.as_slice(), out),
@@ -51,12 +54,13 @@ fn push_entry(
 /// Writes the line of an instruction that fits an entry: two spaces, the filled template and a line feed.
 fn push_found(
     m: &Machine,
-    regs: &MachineRegs,
+    regs: &[u32],
     u: &UnitCode,
     found: &Fit,
     out: &mut Vec<u8>,
 ) -> Result<(), OutOfMemory>
-    ensures { OnOk result (out.new.items ≡ out.old.items ++ line_with m.now (machine_at regs.now) (unit_of u.now) (fit_of found.now)) }
+    ensures ok { OnOk result (out.new.items ≡ out.old.items ++ line_with m.now (machine_at regs.now) (unit_of u.now) (fit_of found.now)) }
+    ensures err { OnErr result (StartsWith out.new.items out.old.items) }
 {
     out.extend_from_slice(b"  ")?;
     push_entry(m, regs, u, found, out)?;
@@ -68,14 +72,15 @@ fn push_found(
 fn push_line(
     alloc: Global,
     m: &Machine,
-    regs: &MachineRegs,
+    regs: &[u32],
     u: &UnitCode,
     xs: &[Transfer],
     cc_live: bool,
     out: &mut Vec<u8>,
 ) -> Result<(), OutOfMemory>
     requires { length m.now.entries < 2 ^ 32 }
-    ensures { OnOk result (out.new.items ≡ out.old.items ++ line_of m.now (machine_at regs.now) (unit_of u.now) (fit m.now cc_live (moves_of xs.now))) }
+    ensures ok { OnOk result (out.new.items ≡ out.old.items ++ line_of m.now (machine_at regs.now) (unit_of u.now) (fit m.now cc_live (moves_of xs.now))) }
+    ensures err { OnErr result (StartsWith out.new.items out.old.items) }
 {
     match recognise(alloc, m, xs, cc_live)? {
         Some(found) => push_found(m, regs, u, &found, out),
@@ -97,15 +102,16 @@ fn cc_live_at(lives: &[bool], i: usize) -> bool
 pub fn push_lines(
     alloc: Global,
     m: &Machine,
-    regs: &MachineRegs,
+    regs: &[u32],
     u: &UnitCode,
     xs: &[Instr],
     lives: &[bool],
     out: &mut Vec<u8>,
 ) -> Result<(), OutOfMemory>
     requires { length m.now.entries < 2 ^ 32 }
-    ensures { (live : ℕ → ℕ → Bool) (b : ℕ) → ((i : ℕ) → live b i ≡ flag_at lives.now i) →
+    ensures ok { (live : ℕ → ℕ → Bool) (b : ℕ) → ((i : ℕ) → live b i ≡ flag_at lives.now i) →
         OnOk result (out.new.items ≡ out.old.items ++ lines_from m.now (machine_at regs.now) (unit_of u.now) live b 0 (instrs_of xs.now)) }
+    ensures err { OnErr result (StartsWith out.new.items out.old.items) }
 {
     for (i, x) in xs.iter().enumerate() {
         push_line(alloc, m, regs, u, &x.xs, cc_live_at(lives, i), out)?;

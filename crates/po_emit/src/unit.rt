@@ -1,5 +1,6 @@
 //! The whole unit.
-ghost use Rattle.std.specs.Prelude.{◌≡◌, ◌++◌, ◌<◌, ◌^◌, ℕ, Bool, List, OnOk, OnErr, IfOk, length, map};
+ghost use Rattle.std.specs.Prelude.{◌≡◌, ◌++◌, ◌<◌, ◌^◌, ℕ, Bool, List, OnOk, OnErr, length, map, codes};
+ghost use Rattle.std.specs.Io.{StartsWith};
 ghost use Rattle.po_model.specs.Blocks.{code_of, block_of, IsCode};
 ghost use Rattle.po_model.specs.UnitCodes.{unit_of};
 ghost use Rattle.po_term.specs.Moves.{instrs_of};
@@ -8,7 +9,7 @@ ghost use Rattle.po_live.specs.Flags.{flag_at, flags_at};
 ghost use Rattle.po_emit.specs.Regs.{machine_at};
 
 use crate::lines::{push_label_line, push_lines};
-use crate::names::{MachineRegs, machine_regs};
+use crate::names::machine_regs;
 use po_assign::Placed;
 use po_live::cc_live_after;
 use po_model::{Block, Machine, UnitCode};
@@ -29,15 +30,16 @@ fn flags_at(lives: &[Vec<bool>], b: usize) -> &[bool]
 fn push_block(
     alloc: Global,
     m: &Machine,
-    regs: &MachineRegs,
+    regs: &[u32],
     u: &UnitCode,
     block: &Block,
     lives: &[bool],
     out: &mut Vec<u8>,
 ) -> Result<(), OutOfMemory>
     requires { length m.now.entries < 2 ^ 32 }
-    ensures { (live : ℕ → ℕ → Bool) (b : ℕ) → ((i : ℕ) → live b i ≡ flag_at lives.now i) →
+    ensures ok { (live : ℕ → ℕ → Bool) (b : ℕ) → ((i : ℕ) → live b i ≡ flag_at lives.now i) →
         OnOk result (out.new.items ≡ out.old.items ++ label_line (unit_of u.now) block.now.label ++ lines_from m.now (machine_at regs.now) (unit_of u.now) live b 0 (instrs_of block.now.instrs.items)) }
+    ensures err { OnErr result (StartsWith out.new.items out.old.items) }
 {
     push_label_line(u, block.label, out)?;
     push_lines(alloc, m, regs, u, &block.instrs, lives, out)
@@ -47,13 +49,14 @@ fn push_block(
 fn push_blocks(
     alloc: Global,
     m: &Machine,
-    regs: &MachineRegs,
+    regs: &[u32],
     u: &UnitCode,
     lives: &[Vec<bool>],
     out: &mut Vec<u8>,
 ) -> Result<(), OutOfMemory>
     requires { length m.now.entries < 2 ^ 32 }
-    ensures { OnOk result (out.new.items ≡ out.old.items ++ blocks_from m.now (machine_at regs.now) (unit_of u.now) (λ b i. flag_at (flags_at lives.now b) i) 0 (code_of u.now.code)) }
+    ensures ok { OnOk result (out.new.items ≡ out.old.items ++ blocks_from m.now (machine_at regs.now) (unit_of u.now) (λ b i. flag_at (flags_at lives.now b) i) 0 (code_of u.now.code)) }
+    ensures err { OnErr result (StartsWith out.new.items out.old.items) }
 {
     for (b, block) in u.code.blocks.iter().enumerate() {
         push_block(alloc, m, regs, u, block, flags_at(lives, b), out)?;
@@ -61,19 +64,27 @@ fn push_blocks(
     Ok(())
 }
 
-/// The assembly of a unit.
-fn text_of(alloc: Global, m: &Machine, p: &Placed) -> Result<Vec<u8>, OutOfMemory>
+/// Writes the line `NAME:` of a unit.
+fn push_name_line(u: &UnitCode, out: &mut Vec<u8>) -> Result<(), OutOfMemory>
+    ensures ok { OnOk result (out.new.items ≡ out.old.items ++ (unit_of u.now).name ++ codes ":\n") }
+    ensures err { OnErr result (StartsWith out.new.items out.old.items) }
+{
+    out.extend_from_slice(u.name.bytes())?;
+    out.extend_from_slice(b":\n")?;
+    Ok(())
+}
+
+/// Writes the assembly of a unit, and after `OutOfMemory` maybe a part of it.
+fn push_text(alloc: Global, m: &Machine, p: &Placed, out: &mut Vec<u8>) -> Result<(), OutOfMemory>
     requires code { IsCode (code_of p.now.unit.code) }
     requires entries { length m.now.entries < 2 ^ 32 }
-    ensures { IfOk result (λ text. IsAssembly m.now p.now.regs.items (unit_of p.now.unit) text.items) }
+    ensures ok { OnOk result ((text : List ℕ) × IsAssembly m.now p.now.regs.items (unit_of p.now.unit) text × (out.new.items ≡ out.old.items ++ text)) }
+    ensures err { OnErr result (StartsWith out.new.items out.old.items) }
 {
     let regs = machine_regs(alloc, &p.regs)?;
     let lives = cc_live_after(alloc, &p.unit.code)?;
-    let mut out = Vec::new(alloc);
-    out.extend_from_slice(p.unit.name.bytes())?;
-    out.extend_from_slice(b":\n")?;
-    push_blocks(alloc, m, &regs, &p.unit, &lives.after, &mut out)?;
-    Ok(out)
+    push_name_line(&p.unit, out)?;
+    push_blocks(alloc, m, &regs, &p.unit, &lives.after, out)
 }
 
 /// Writes the assembly of a unit at the end of `out`: the line `NAME:`, for each block the line `NAME.LABEL:` where it has a label, and
@@ -86,7 +97,10 @@ pub fn emit(alloc: Global, m: &Machine, p: &Placed, out: &mut Vec<u8>) -> Result
     ensures ok { OnOk result ((text : List ℕ) × IsAssembly m.now p.now.regs.items (unit_of p.now.unit) text × (out.new.items ≡ out.old.items ++ text)) }
     ensures err { OnErr result (out.new.items ≡ out.old.items) }
 {
-    let text = text_of(alloc, m, p)?;
-    out.extend_from_slice(&text)?;
-    Ok(())
+    let before = out.len();
+    let written = push_text(alloc, m, p, out);
+    if written.is_err() {
+        out.truncate(before);
+    }
+    written
 }

@@ -10,7 +10,7 @@ use Rattle.po_assign.proofs.Formed.{formed_few}
 use Rattle.po_assign.proofs.unit.assign.Goals as goal
 
 pub place_code-requires-clause-each : goal.place_code-requires-clause-each
-place_code-requires-clause-each c = rw c.deref.ensures.value (formed_few (code_of c.args.u.code) c.requires.code.formed)
+place_code-requires-clause-each c = rw c.deref.ensures.value (formed_few (code_of c.args.u.code) c.requires.code.form.formed)
 
 pub returns-in-Ok-Given-clause-uncrowded : goal.returns-in-Ok-Given-clause-uncrowded
 returns-in-Ok-Given-clause-uncrowded c =

@@ -9,8 +9,8 @@ use Rattle.po_emit.specs.Regs.{machine_at}
 use Rattle.po_emit.proofs.Operands.{line_seen}
 use Rattle.po_emit.proofs.lines.push_line.Goals as goal
 
-pub returns-in-Some : goal.returns-in-Some
-returns-in-Some c =
+pub returns-in-Some-clause-ok : goal.returns-in-Some-clause-ok
+returns-in-Some-clause-ok c =
     let fits = sym (ap (option_map fit_of) c.in-Some.is) ∙ c.in_ok-found.ensures in
     let line = line_seen c.args.m.now (machine_at c.args.regs.now) (unit_of c.args.u.now) c.in-Some.found (fit c.args.m.now c.args.cc_live (moves_of c.args.xs.now)) fits in
-    subst (λ (t : List ℕ). OnOk c.push_found.result (c.push_found.new.out.items ≡ c.args.out.now.items ++ t)) line c.push_found.ensures
+    subst (λ (t : List ℕ). OnOk c.push_found.result (c.push_found.new.out.items ≡ c.args.out.now.items ++ t)) line c.push_found.ensures.ok

@@ -1,8 +1,11 @@
-use Rattle.std.proofs.Common.{◌≡◌, ℕ, ◌<◌, Bool, List, length, get_or, sym, ap}
+use Rattle.std.proofs.Common.{◌≡◌, ℕ, ◌<◌, Bool, List, length, get_or, sym, ap, refl, ◌++◌}
 use Rattle.po_live.specs.Flags.{flag_at, flags_at}
 use Rattle.po_model.specs.UnitCodes.{unit_of}
+use Rattle.po_term.specs.Moves.{instrs_of}
+use Rattle.po_model.specs.Assembly.{label_line, lines_from}
 use Rattle.po_emit.specs.Regs.{machine_at}
 use Rattle.po_emit.proofs.Turns.{blocks_turn}
+use Rattle.po_emit.proofs.Starts.{starts_more}
 use Rattle.po_emit.proofs.unit.push_blocks.Goals as goal
 
 pub loop-b-preserved : goal.loop-b-preserved
@@ -14,5 +17,11 @@ loop-b-preserved c =
     let h : j < length bs = rw (← c.deref-block-items.ensures.value) c.loop-b-test.true in
     let e : block ≡ get_or bs j block = rw (← c.deref-block-items.ensures.value) c.block-item.is in
     let there = λ (i : ℕ). ap (λ (fs : List Bool). flag_at fs i) (sym c.flags_at.ensures) in
-    blocks_turn c.args.m.now (machine_at c.args.regs.now) (unit_of c.args.u.now) live bs j block c.loop-b.out.items c.push_block.new.out.items _ h e
-    (c.in_ok-push_block.ensures live j there) c.loop-b.invariant
+    let out = c.loop-b.out.items in
+    let label = label_line (unit_of c.args.u.now) block.label in
+    let lines = lines_from c.args.m.now (machine_at c.args.regs.now) (unit_of c.args.u.now) live j 0 (instrs_of block.instrs.items) in
+    let added : c.push_block.new.out.items ≡ out ++ label ++ lines = c.in_ok-push_block.ensures.ok live j there in
+    record {
+      text = blocks_turn c.args.m.now (machine_at c.args.regs.now) (unit_of c.args.u.now) live bs j block out c.push_block.new.out.items _ h e added c.loop-b.invariant.text;
+      kept = starts_more _ lines (out ++ label) _ (starts_more _ label out _ c.loop-b.invariant.kept refl) added;
+    }
