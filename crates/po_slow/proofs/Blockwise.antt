@@ -6,11 +6,12 @@ use Rattle.std.proofs.lemmas.List.{length-map}
 use Rattle.std.proofs.lemmas.List.Elements.{All-nil, All-cons, All-head, All-tail}
 use Rattle.po_term.specs.declared.term.Label.{Label}
 use Rattle.po_model.specs.declared.var.Var.{Var}
-use Rattle.po_model.specs.Blocks.{PlainInstr, PlainBlock, instrs_at, block_from}
+use Rattle.po_model.specs.Blocks.{PlainBlock, instrs_at, block_from}
 use Rattle.po_model.specs.Scanned.{Ahead, instrs_ahead}
 use Rattle.po_model.specs.UnitCodes.{flat}
 use Rattle.po_slow.proofs.Onto.{onto}
 use Rattle.po_slow.proofs.Passes.{label_of}
+use Rattle.po_term.specs.Moves.{PlainInstr}
 
 -- the instructions that are to come
 abbrev pub instrs_in : List Ahead → List PlainInstr

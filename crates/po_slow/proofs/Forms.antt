@@ -7,33 +7,31 @@ use Rattle.std.proofs.lemmas.List.Elements.{All-nil, All-cons, All-head, All-tai
 use mathlib.Core.Logic.{◌⊎◌, inl, inr}
 use Rattle.po_term.specs.declared.term.Sym.{Sym}
 use Rattle.po_term.specs.Terms.{Place}
-use Rattle.po_term.specs.Moves.{Ending}
+use Rattle.po_term.specs.Moves.{Ending, PlainInstr}
 use Rattle.po_term.specs.Form.{WellFormed}
 use Rattle.po_model.specs.declared.machine.Machine.{Machine}
-use Rattle.po_model.specs.Blocks.{PlainInstr, PlainBlock, EndsLast, instrs_at, ending_of}
-use Rattle.po_model.specs.Parts as parts
+use Rattle.po_model.specs.Blocks.{PlainBlock, EndsLast, instrs_at}
 use Rattle.po_model.specs.Machines.{IsMachine}
 use Rattle.po_model.specs.Pairs.{PlainPair, WellFormedPair}
 use Rattle.po_model.specs.Combined.{AsOne}
-use Rattle.po_model.specs.Scanned.{Ahead, pair_with, instrs_ahead, IsSlowed}
-use Rattle.po_model.specs.UnitCodes.{NamedMove, NamedLabel, IsNamedBlock, flat}
+use Rattle.po_model.specs.Scanned.{Ahead, pair_with, instrs_ahead, Answers, IsScanned, AreSafe}
+use Rattle.po_model.specs.UnitCodes.{NamedMove, NamedLabel, IsNamedBlock, flat, IsFormedCode}
 use Rattle.po_slow.specs.KeepsEffect.{KeepsEffect}
-use Rattle.po_slow.specs.Passes.{IsFormedCode}
 use Rattle.po_slow.proofs.Sound.{answer_keeps}
 use Rattle.po_slow.proofs.Passes.{Told, Laws, by_passes, label_of}
 use Rattle.po_slow.proofs.Onto.{onto, onto_reverse, length_onto, all_onto, all_replaced}
 use Rattle.po_slow.proofs.Named.{named_of_two}
 use Rattle.po_slow.proofs.PairWith.{pair_formed}
-use Rattle.po_slow.proofs.LivenessEndings.{same_ending}
 use Rattle.po_slow.proofs.Blockwise.{instrs_in, whole, ahead_instrs, block_at, all_blocks, same_length, same_blocks}
+use Rattle.po_model.specs.Parts.{ending_of}
 
 -- Where transfers of control stand
 
 abbrev IsQuiet : PlainInstr → Type 0
 IsQuiet x = ending_of x ≡ None
 
-quiet_by : (a b : PlainInstr) → (is_some (parts.ending_of a) ≡ false → is_some (parts.ending_of b) ≡ false) → IsQuiet a → IsQuiet b
-quiet_by a b f h = same_ending b ∙ none_there (parts.ending_of b) (f (ap is_some (sym (same_ending a) ∙ h)))
+quiet_by : (a b : PlainInstr) → (is_some (ending_of a) ≡ false → is_some (ending_of b) ≡ false) → IsQuiet a → IsQuiet b
+quiet_by a b f h = none_there (ending_of b) (f (ap is_some h))
   where
     none_there : (o : Option (Ending ℕ Place Sym)) → is_some o ≡ false → o ≡ None
     none_there None e = refl
@@ -119,10 +117,10 @@ module _ (code : List PlainBlock) (b : ℕ) where
 -- A whole code
 
 -- what is kept of a code
-pub record Formed (code slowed : List PlainBlock) : Type 0 where
-  pub labels : map label_of slowed ≡ map label_of code
-  pub same_or_fewer : (slowed ≡ code) ⊎ (length (flat slowed) < length (flat code))
-  pub named : (labels syms : ℕ) → All (IsNamedBlock labels syms) code → All (IsNamedBlock labels syms) slowed
+pub record Formed (code scanned : List PlainBlock) : Type 0 where
+  pub labels : map label_of scanned ≡ map label_of code
+  pub same_or_fewer : (scanned ≡ code) ⊎ (length (flat scanned) < length (flat code))
+  pub named : (labels syms : ℕ) → All (IsNamedBlock labels syms) code → All (IsNamedBlock labels syms) scanned
 
 fewer_on : (a b c : List PlainBlock) → (b ≡ a) ⊎ (length (flat b) < length (flat a)) → (c ≡ b) ⊎ (length (flat c) < length (flat b)) → (c ≡ a) ⊎ (length (flat c) < length (flat a))
 fewer_on a b c (inl e) (inl f) = inl (f ∙ e)
@@ -180,6 +178,7 @@ module _ (m : Machine) (allowed : IsMachine m) where
       named = λ labels syms n. g.named labels syms (f.named labels syms n);
     };
     start = λ code live before tells b lt. stays_at_start code live before b lt;
+    formed = λ code live before tells b d done x xs h. stays_pair code b done d x (instrs_in xs) h;
     dropped = λ code live before tells b done x xs h dead. left_out code b done x.instr (instrs_in xs) h;
     taken = λ code live before tells b done x xs h. h;
     gone = λ code live before tells b d done x xs h e. left_out code b done x.instr (instrs_in xs) (left_out code b done d (x.instr ∷ instrs_in xs) h);
@@ -188,5 +187,6 @@ module _ (m : Machine) (allowed : IsMachine m) where
     over = λ code live before tells next e h. kept_form code next e h;
   }
 
-  pub keeps_formed : (code slowed : List PlainBlock) (pairs : List PlainPair) → IsFormedCode code → IsSlowed m code pairs slowed → Formed code slowed × IsFormedCode slowed
-  keeps_formed = by_passes form_laws
+  pub keeps_formed : (answer : Answers) → AreSafe m answer → (code scanned : List PlainBlock) (pairs : List PlainPair)
+      → IsFormedCode code → IsScanned answer code pairs scanned → Formed code scanned × IsFormedCode scanned
+  keeps_formed answer safe = by_passes form_laws answer safe

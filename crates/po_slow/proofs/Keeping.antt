@@ -12,19 +12,19 @@ use Rattle.std.specs.Global.{Vec}
 use Rattle.po_model.specs.declared.pair.Live.{Live}
 use Rattle.po_model.specs.declared.machine.Machine.{Machine}
 use Rattle.po_model.specs.Machines.{IsMachine}
-use Rattle.po_model.specs.Parts as parts
-use Rattle.po_term.specs.Moves.{SetTo, CcTo, StoreTo, Ends}
-use Rattle.po_model.specs.Blocks.{instrs_at, PlainInstr, PlainBlock, ending_of, EndsLast}
+use Rattle.po_term.specs.Moves.{PlainInstr}
+use Rattle.po_model.specs.Blocks.{instrs_at, PlainBlock, EndsLast}
 use Rattle.po_model.specs.Pairs.{PlainPair, WellFormedPair}
-use Rattle.po_model.specs.Combined.{Kept, Gone, AsOne}
-use Rattle.po_model.specs.Scanned.{Answer, Ahead, Stand, BlockAhead, Scan, Within, Finished, is_dead, onward, ready, settled, pair_ready, after_try, instrs_ahead, blocks_ahead, enter}
+use Rattle.po_model.specs.Combined.{Kept, Gone, AsOne, Answer}
+use Rattle.po_model.specs.Scanned.{Ahead, Stand, BlockAhead, Scan, Within, Finished, is_dead, onward, ready, settled, pair_ready, after_try, instrs_ahead, blocks_ahead, enter, IsAtEnd}
 use Rattle.po_slow.specs.declared.block.Standing.{Standing}
 use Rattle.po_slow.specs.KeepsEffect.{KeepsEffect}
-use Rattle.po_slow.specs.Passes.{IsFormedCode}
-use Rattle.po_slow.proofs.Places.{at_end_done, at_end_next}
+use Rattle.po_slow.proofs.Places.{ready_nil, none_done, at_end_next}
 use Rattle.po_slow.proofs.Sound.{answer_keeps}
 use Rattle.po_slow.proofs.Targets.{pair_well_formed}
-use Rattle.po_slow.specs.States.{place_in, place_of, told, HasPair, IsAnswer, IsTried, IsAtEnd, CanAnswer, instrs_in, IsFormedList, IsFormedScan}
+use Rattle.po_slow.specs.States.{place_in, scan_by, told, HasPair, IsAnswer, IsTried, CanAnswer, instrs_in, IsFormedList, IsFormedScan}
+use Rattle.po_model.specs.Parts.{ending_of}
+use Rattle.po_model.specs.UnitCodes.{IsFormedCode}
 
 -- Lists
 
@@ -130,36 +130,29 @@ formed_ready (Finished code) p f e = absurd (cc)
 
 -- where a pair may be answered for, one is ready
 none_at_end : (s : Scan) → IsAtEnd s → pair_ready s ≡ None
-none_at_end (Within s) h = h
+none_at_end (Within s) h = ap (λ xs. ready s.stand.done xs) h ∙ ready_nil s.stand.done
 none_at_end (Finished code) h = absurd h
 
-cannot : (s : Scan) (o : Answer) → CanAnswer (pair_ready s) o → IsAtEnd s → ⊥
-cannot s o can h = subst (λ r. CanAnswer r o) (none_at_end s h) can
+cannot : (s : Scan) (o : Answer) → CanAnswer (pair_ready s) o → pair_ready s ≡ None → ⊥
+cannot s o can h = subst (λ r. CanAnswer r o) h can
 
 pub less_or_not : (m n : ℕ) → (m < n) ⊎ (n ≤ m)
 less_or_not m zero = inr (omega arith)
 less_or_not zero (suc n) = inl (omega arith)
 less_or_not (suc m) (suc n) = elim (less_or_not m n) [ inl h ↦ inl (omega arith) | inr h ↦ inr (omega arith) ]
 
-pub has_pair : (code : List PlainBlock) (lives : List (Vec Live)) (b : ℕ) (at : Standing) (o : Answer) → CanAnswer (pair_ready (place_of code lives b at)) o → HasPair code b at
+pub has_pair : (code : List PlainBlock) (lives : List (Vec Live)) (b : ℕ) (at : Standing) (o : Answer) → CanAnswer (pair_ready (scan_by code lives b at)) o → HasPair code b at
 has_pair code lives b at o can =
     let block = go_block (drop b code) (sym (length-drop b code)) can in
     record {
       block = block;
-      done = elim (less_or_not 0 at.done) [ inl h ↦ h | inr h ↦ absurd (cannot (place_of code lives b at) o can (at_end_done code lives b at block (omega arith))) ];
-      next = elim (less_or_not at.next (length (instrs_at code b))) [ inl h ↦ h | inr h ↦ absurd (cannot (place_of code lives b at) o can (at_end_next code lives b at block h)) ];
+      done = elim (less_or_not 0 at.done) [ inl h ↦ h | inr h ↦ absurd (cannot (scan_by code lives b at) o can (none_done code lives b at block (omega arith))) ];
+      next = elim (less_or_not at.next (length (instrs_at code b))) [ inl h ↦ h | inr h ↦ absurd (cannot (scan_by code lives b at) o can (none_at_end (scan_by code lives b at) (at_end_next code lives b at block h))) ];
     }
   where
     go_block : (l : List PlainBlock) → length code - b ≡ length l → CanAnswer (pair_ready (place_in (told lives) b at.done at.next at.changed (reverse (take b code)) l)) o → b < length code
     go_block [] e h = absurd h
     go_block (x ∷ xs) e h = omega arith
-
-same_ending : (ms : PlainInstr) → parts.ending_of ms ≡ ending_of ms
-same_ending [] = refl
-same_ending (SetTo r t ∷ ms) = same_ending ms
-same_ending (CcTo t u ∷ ms) = same_ending ms
-same_ending (StoreTo t u ∷ ms) = same_ending ms
-same_ending (Ends e ∷ ms) = refl
 
 none_is : {A : Type 0} (o : Option A) → is_some o ≡ false → o ≡ None
 none_is None h = refl
@@ -172,7 +165,7 @@ can_answer m s o machine f a = go (pair_ready s) refl a
     by_answer : (p : PlainPair) (o : Answer) → KeepsEffect m p o → CanAnswer (Some p) o
     by_answer p Kept k = tt
     by_answer p Gone k = tt
-    by_answer p (AsOne j) k = (k.formed machine, λ e. sym (same_ending j) ∙ none_is (parts.ending_of j) (k.control (ap is_some (same_ending p.b ∙ e))))
+    by_answer p (AsOne j) k = (k.formed machine, λ e. none_is (ending_of j) (k.control (ap is_some e)))
 
     go : (r : Option PlainPair) → pair_ready s ≡ r → IsAnswer m r o → CanAnswer r o
     go None e a = absurd a

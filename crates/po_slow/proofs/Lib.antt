@@ -1,33 +1,41 @@
-pub mod Sound
-pub mod Passes
+-- Lists
 pub mod Onto
-pub mod PairWith
-pub mod Blockwise
-pub mod Named
-pub mod Forms
 pub mod Distinct
+pub mod Blockwise
+-- What becomes of a pair
+pub mod PairWith
+pub mod Sound
+pub mod Targets
+pub mod Dead
+-- The scan: where it stands, its steps, and that it ends
+pub mod Places
+pub mod Written
+pub mod Standing
+pub mod Passing
+pub mod Steps
+pub mod Work
+pub mod Over
+pub mod Passes
+pub mod OnlyOne
+-- The form of the code that passes make
+pub mod Keeping
+pub mod Named
 pub mod Virtuals
 pub mod Straight
+pub mod Forms
+pub mod KeptForm
+-- Passes make nothing live
 pub mod LivenessEndings
 pub mod LivenessFlow
 pub mod LivenessPass
 pub mod LivenessCode
+pub mod LivenessLast
+pub mod LivenessPasses
+-- Passes keep runs
 pub mod RunsRead
 pub mod RunsReplace
-pub mod Dead
 pub mod RunsWithin
 pub mod RunsLeave
 pub mod RunsBlocks
 pub mod RunsStart
 pub mod RunsPasses
-pub mod Keeping
-pub mod Passing
-pub mod Places
-pub mod LivenessLast
-pub mod LivenessPasses
-pub mod KeptForm
-pub mod Standing
-pub mod Steps
-pub mod Targets
-pub mod Work
-pub mod Written

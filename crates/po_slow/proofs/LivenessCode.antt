@@ -8,25 +8,25 @@ use mathlib.Core.Logic.{◌⊎◌, inl, inr}
 use mathlib.Core.List.{reverse_aux}
 use Rattle.po_term.specs.declared.term.Sym.{Sym}
 use Rattle.po_term.specs.Terms.{Place}
-use Rattle.po_term.specs.Moves.{Ending, GoTo, IfCc, IfTwo, CallOf, Return}
+use Rattle.po_term.specs.Moves.{Ending, GoTo, IfCc, IfTwo, CallOf, Return, PlainInstr}
 use Rattle.po_term.specs.Form.{WellFormed}
 use Rattle.po_model.specs.declared.machine.Machine.{Machine}
 use Rattle.po_model.specs.declared.var.Var.{Var}
 use Rattle.po_model.specs.declared.var.Var.TheVariants.{Cc}
-use Rattle.po_model.specs.Blocks.{PlainInstr, PlainBlock, EndsLast, instrs_at, target_by, goes_on, is_at, ending_at, target_at, next_at, leads}
-use Rattle.po_model.specs.LiveAfter.{IsLive}
+use Rattle.po_model.specs.Blocks.{PlainBlock, EndsLast, instrs_at, target_by, goes_on, is_at, ending_at, target_at, next_at, leads}
+use Rattle.po_model.specs.LiveAfter.{IsLive, IsLiveAt}
 use Rattle.po_model.specs.Fit.{fit}
 use Rattle.po_model.specs.Fitted.{instr_at}
 use Rattle.po_model.specs.Machines.{IsMachine}
 use Rattle.po_model.specs.Scanned.{Ahead}
-use Rattle.po_slow.specs.Passes.{IsFormedCode, IsLiveAt}
 use Rattle.po_recog.proofs.Clobbers.{fits_dead}
 use Rattle.po_subst.proofs.Reading.{by_either, left_true, right_true}
 use Rattle.po_slow.proofs.Passes.{Laws, label_of}
 use Rattle.po_slow.proofs.LivenessEndings.{NoFurther, no_further_self}
 use Rattle.po_slow.proofs.LivenessFlow.{Flows, NoMore, ReadBehind, live_where, live_on, flows_where}
 use Rattle.po_slow.proofs.Blockwise.{instrs_in, each_block, all_blocks, same_length, label_block}
-use Rattle.po_slow.proofs.LivenessPass.{AllFit, AllStay, Current, Standing, standing_start, standing_dropped, standing_taken, standing_gone, standing_one}
+use Rattle.po_slow.proofs.LivenessPass.{AllFit, AllStay, Current, Standing, standing_start, standing_formed, standing_dropped, standing_taken, standing_gone, standing_one}
+use Rattle.po_model.specs.UnitCodes.{IsFormedCode}
 
 -- Lists of blocks
 
@@ -176,6 +176,7 @@ pub liveness_laws : (m : Machine) → IsMachine m → Laws m IsFormedCode (Makes
 liveness_laws m allowed = record {
   joins = nothing_on m;
   start = λ code live h t b l. standing_start m code b (live b) (each_block (λ xs. All WellFormed xs) (All-nil WellFormed) code b h.formed) (each_block EndsLast tt code b h.ends_last) (λ i v k. t b i v k);
+  formed = λ code live h t b d done x xs s. standing_formed m code b d done x xs s;
   dropped = λ code live h t b done x xs s d. standing_dropped m code b done x xs s d;
   taken = λ code live h t b done x xs s. standing_taken m code b done x xs s;
   gone = λ code live h t b d done x xs s i. standing_gone m code b allowed d done x xs s i;

@@ -5,16 +5,16 @@ use Rattle.std.proofs.lemmas.Bool.{false≢true}
 use mathlib.Core.Logic.{◌⊎◌, inl, inr}
 use Rattle.po_term.specs.declared.term.Reg.{Reg as Register}
 use Rattle.po_term.specs.declared.term.Reg.TheVariants.{Fp}
-use Rattle.po_term.specs.Moves.{SetTo, CcTo, StoreTo, Ends}
+use Rattle.po_term.specs.Moves.{SetTo, CcTo, StoreTo, Ends, PlainMove, PlainInstr}
 use Rattle.po_term.specs.Simplified.{reg_eq}
-use Rattle.po_term.specs.Form.{PlainMove}
 use Rattle.po_model.specs.declared.var.Var.{Var}
 use Rattle.po_model.specs.declared.var.Var.TheVariants.{Reg, Cc}
-use Rattle.po_model.specs.Blocks.{PlainInstr, PlainBlock, ending_of, instrs_at, leads}
+use Rattle.po_model.specs.Blocks.{PlainBlock, instrs_at, leads}
 use Rattle.po_model.specs.LiveAfter.{move_sets, reads, sets, Point, ReadOn, IsRead, IsLive}
 use Rattle.po_model.specs.Scanned.{is_dead_move, is_dead}
 use Rattle.po_subst.specs.KeepsEffect.{live_before}
 use Rattle.po_subst.proofs.Agreeing.{one_register}
+use Rattle.po_model.specs.Parts.{ending_of}
 
 module _ (Out : Var → Type 0) where
   -- v is read in these instructions before it is set, or isn't set in them and Out holds of it behind them

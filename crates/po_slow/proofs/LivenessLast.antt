@@ -1,15 +1,15 @@
 -- The last pass changes nothing, so what it was told of its code is told of the code that all passes make.
 use Rattle.std.proofs.Common.{◌≡◌, ℕ, suc, Bool, true, false, List, [], ◌∷◌, map, reverse, refl, sym, ◌∙◌, ap, subst}
-use Rattle.std.specs.Prelude.{if◌then◌else◌, Some, None}
+use Rattle.std.specs.Prelude.{if◌then◌else◌, Some}
 use Rattle.std.proofs.lemmas.Bool.{true≢false}
 use mathlib.Core.List.{reverse_aux}
-use Rattle.po_model.specs.declared.machine.Machine.{Machine}
-use Rattle.po_model.specs.Blocks.{PlainInstr, PlainBlock}
+use Rattle.po_model.specs.Blocks.{PlainBlock}
 use Rattle.po_model.specs.Pairs.{PlainPair}
-use Rattle.po_model.specs.Combined.{Kept, Gone, AsOne, combination}
-use Rattle.po_model.specs.Scanned.{Answer, Ahead, Stand, BlockAhead, InBlock, Scan, Within, Finished, ScanStep, Tried, Ended, is_dead, onward, ready, settled, instrs_ahead, blocks_ahead, enter, Tells, IsPassStart, passed_with, AfterPass, AfterBlock, after_try, Goes, IsSlowed}
-use Rattle.po_slow.proofs.Passes.{Told, Stops, onward_stops, settled_stops, nothing_comes}
+use Rattle.po_model.specs.Combined.{Kept, Gone, AsOne, Answer}
+use Rattle.po_model.specs.Scanned.{Ahead, Stand, BlockAhead, InBlock, Scan, Within, Finished, ScanStep, Tried, Ended, is_dead, onward, ready, settled, instrs_ahead, blocks_ahead, enter, Tells, IsPassStart, passed_with, AfterPass, AfterBlock, after_try, Answers, Goes, IsScanned}
+use Rattle.po_slow.proofs.Passes.{Told}
 use Rattle.po_slow.proofs.Blockwise.{instrs_in, ahead_instrs}
+use Rattle.po_term.specs.Moves.{PlainInstr}
 
 -- Within a block
 
@@ -64,7 +64,6 @@ record InPass (s : InBlock) : Type 0 where
   live : Told
   tells : Tells code live
   same : s.stand.changed ≡ false → whole s ≡ code
-  stops : Stops s.stand
 
 abbrev IsTold : Scan → Type 0
 IsTold (Within s) = InPass s
@@ -78,7 +77,6 @@ entered code live tells passed b bs changed same = record {
   live = live;
   tells = tells;
   same = λ e. let u = onward_unchanged [] b.instrs changed e in ap (λ is. reverse_aux passed (record { label = b.label; instrs = is } ∷ map plain_ahead bs)) u.1 ∙ same u.0;
-  stops = onward_stops [] b.instrs changed;
 }
 
 started : (code : List PlainBlock) (s : Scan) → IsPassStart code s → IsTold s
@@ -88,12 +86,11 @@ started (b ∷ bs) s (live, tells, e) =
     (entered (b ∷ bs) live tells [] (record { label = b.label; instrs = instrs_ahead (live 0) 0 b.instrs }) (blocks_ahead live 1 bs) false (λ f. blocks_are live 0 (b ∷ bs)))
 
 -- the whole at the end of a block
-at_end : (s : InBlock) (h : InPass s) → ready s.stand.done s.stand.rest ≡ None → s.stand.changed ≡ false → reverse_aux (passed_with s) (map plain_ahead s.coming) ≡ h.code
+at_end : (s : InBlock) (h : InPass s) → s.stand.rest ≡ [] → s.stand.changed ≡ false → reverse_aux (passed_with s) (map plain_ahead s.coming) ≡ h.code
 at_end s h e f =
-    let none : s.stand.rest ≡ [] = nothing_comes s.stand.done s.stand.rest e h.stops in
-    ap (λ (rest : List Ahead). reverse_aux s.passed (record { label = s.label; instrs = reverse_aux s.stand.done (instrs_in rest) } ∷ map plain_ahead s.coming)) (sym none) ∙ h.same f
+    ap (λ (rest : List Ahead). reverse_aux s.passed (record { label = s.label; instrs = reverse_aux s.stand.done (instrs_in rest) } ∷ map plain_ahead s.coming)) (sym e) ∙ h.same f
 
-ended : (s : InBlock) (t : Scan) → InPass s → ready s.stand.done s.stand.rest ≡ None → AfterBlock s.coming s t → IsTold t
+ended : (s : InBlock) (t : Scan) → InPass s → s.stand.rest ≡ [] → AfterBlock s.coming s t → IsTold t
 ended s t h e after = go s.coming refl after
   where
     over : (changed : Bool) → s.stand.changed ≡ changed → s.coming ≡ [] → AfterPass changed (reverse (passed_with s)) t → IsTold t
@@ -108,25 +105,24 @@ ended s t h e after = go s.coming refl after
         subst (λ (s : Scan). IsTold s) (sym a)
         (entered h.code h.live h.tells (passed_with s) b bs s.stand.changed (λ f. ap (λ (bs : List BlockAhead). reverse_aux (passed_with s) (map plain_ahead bs)) (sym c) ∙ at_end s h e f))
 
-tried_on : (m : Machine) (s : InBlock) (p : PlainPair) → ready s.stand.done s.stand.rest ≡ Some p → InPass s → IsTold (after_try (combination m p) (Within s))
-tried_on m s p e h =
-    record {
-      code = h.code;
-      live = h.live;
-      tells = h.tells;
-      same = λ f.
-          let u = settled_unchanged (combination m p) s.stand.done s.stand.rest s.stand.changed p e f in
-          ap (λ is. reverse_aux s.passed (record { label = s.label; instrs = is } ∷ map plain_ahead s.coming)) u.1 ∙ h.same u.0;
-      stops = settled_stops (combination m p) s.stand.done s.stand.rest s.stand.changed p e;
-    }
+module _ (answer : Answers) where
+  tried_on : (s : InBlock) (p : PlainPair) → ready s.stand.done s.stand.rest ≡ Some p → InPass s → IsTold (after_try (answer p) (Within s))
+  tried_on s p e h = record {
+    code = h.code;
+    live = h.live;
+    tells = h.tells;
+    same = λ f.
+        let u = settled_unchanged (answer p) s.stand.done s.stand.rest s.stand.changed p e f in
+        ap (λ is. reverse_aux s.passed (record { label = s.label; instrs = is } ∷ map plain_ahead s.coming)) u.1 ∙ h.same u.0;
+  }
 
-stepped : (m : Machine) (s : Scan) (steps : List ScanStep) (t : Scan) → IsTold s → Goes m s steps t → IsTold t
-stepped m s [] t h g = subst (λ (s : Scan). IsTold s) (sym g) h
-stepped m (Within s) (Tried p ∷ steps) t h g = stepped m (after_try (combination m p) (Within s)) steps t (tried_on m s p g.0 h) g.1
-stepped m (Finished code) (Tried p ∷ steps) t h g = absurd (cc)
-stepped m (Within s) (Ended ∷ steps) t h (u, a, g) = stepped m u steps t (ended s u h a.0 a.1) g
-stepped m (Finished code) (Ended ∷ steps) t h (u, a, g) = absurd a
+  stepped : (s : Scan) (steps : List ScanStep) (t : Scan) → IsTold s → Goes answer s steps t → IsTold t
+  stepped s [] t h g = subst (λ (s : Scan). IsTold s) (sym g) h
+  stepped (Within s) (Tried p ∷ steps) t h g = stepped (after_try (answer p) (Within s)) steps t (tried_on s p g.0 h) g.1
+  stepped (Finished code) (Tried p ∷ steps) t h g = absurd (cc)
+  stepped (Within s) (Ended ∷ steps) t h (u, a, g) = stepped u steps t (ended s u h a.0 a.1) g
+  stepped (Finished code) (Ended ∷ steps) t h (u, a, g) = absurd a
 
--- of the code that all passes make it is told what is live
-pub told_at_last : (m : Machine) (code slowed : List PlainBlock) (pairs : List PlainPair) → IsSlowed m code pairs slowed → (live : Told) × Tells slowed live
-told_at_last m code slowed pairs (steps, (start, first, goes), e) = stepped m start steps (Finished slowed) (started code start first) goes
+  -- of the code that all passes make it is told what is live
+  pub told_at_last : (code scanned : List PlainBlock) (pairs : List PlainPair) → IsScanned answer code pairs scanned → (live : Told) × Tells scanned live
+  told_at_last code scanned pairs (steps, (start, first, goes), e) = stepped start steps (Finished scanned) (started code start first) goes

@@ -1,5 +1,5 @@
 -- Within a pass over a code, what is live in the code that is made was told at its start.
-use Rattle.std.proofs.Common.{◌≡◌, ℕ, zero, suc, ◌+◌, ◌<◌, Bool, true, List, [], ◌∷◌, length, drop, refl, sym, ◌∙◌, ap, subst, arith}
+use Rattle.std.proofs.Common.{◌≡◌, ℕ, zero, suc, ◌+◌, ◌<◌, Bool, true, List, [], ◌∷◌, length, drop, refl, sym, ap, subst, arith}
 use Rattle.std.specs.Prelude.{Option, Some, None, is_some, IsSome, IsTrue, ◌↔◌, All, ⊤}
 use Rattle.std.proofs.lemmas.List.Elements.{All-head, All-tail}
 use mathlib.Core.Logic.{inl, inr}
@@ -12,25 +12,25 @@ use Rattle.po_term.specs.Form.{WellFormed}
 use Rattle.po_model.specs.declared.machine.Machine.{Machine}
 use Rattle.po_model.specs.declared.var.Var.{Var}
 use Rattle.po_model.specs.declared.var.Var.TheVariants.{Cc}
-use Rattle.po_model.specs.Blocks.{PlainInstr, PlainBlock, ending_of, block_ending, EndsLast, instrs_at}
-use Rattle.po_model.specs.Parts as parts
-use Rattle.po_model.specs.Parts.{plainly}
+use Rattle.po_model.specs.Blocks.{PlainBlock, block_ending, EndsLast, instrs_at}
+use Rattle.po_model.specs.Parts.{code_leaves, ending_of}
 use Rattle.po_model.specs.LiveAfter.{IsLive, LiveAfter}
-use Rattle.po_model.specs.Fit.{Found, places, fit}
+use Rattle.po_model.specs.Fit.{Found, fit}
 use Rattle.po_model.specs.Fitted.{instr_at}
 use Rattle.po_model.specs.Joined.{Joint, NotJoined, NothingLeft, joined}
 use Rattle.po_model.specs.Joined as joint
 use Rattle.po_model.specs.Machines.{IsMachine}
-use Rattle.po_model.specs.Pairs.{is_live_after}
-use Rattle.po_model.specs.Combined.{Gone, AsOne, if_fit, recognised, combination}
-use Rattle.po_model.specs.Scanned.{Answer, Ahead, is_dead, pair_with, instrs_ahead}
+use Rattle.po_model.specs.Pairs.{is_live_after, WellFormedPair}
+use Rattle.po_model.specs.Combined.{Gone, AsOne, if_fit, recognised, combination, Answer}
+use Rattle.po_model.specs.Scanned.{Ahead, is_dead, pair_with, instrs_ahead}
 use Rattle.po_subst.proofs.Alike.{none_of}
 use Rattle.po_slow.specs.KeepsEffect.{InPlace, KeepsEffect}
 use Rattle.po_slow.proofs.Sound.{answer_keeps}
-use Rattle.po_slow.proofs.LivenessEndings.{NoFurther, no_further_self, no_further_than, same_ending, combination_less}
+use Rattle.po_slow.proofs.LivenessEndings.{NoFurther, no_further_self, no_further_than, combination_less}
 use Rattle.po_slow.proofs.PairWith.{pair_formed, pair_tells}
 use Rattle.po_slow.proofs.Blockwise.{instrs_in, ahead_instrs}
 use Rattle.po_slow.proofs.LivenessFlow.{Flows, NoMore, flows_past, no_more_before, flows_two, flows_before, dead_unset, dead_ending, ReadBehind, live_flows, live_where}
+use Rattle.po_term.specs.Moves.{PlainInstr}
 
 -- Transfers of control in a block whose instructions change
 
@@ -57,7 +57,7 @@ abbrev pub AllFit : Machine → List PlainBlock → Type 0
 AllFit m code = (b i : ℕ) (c : Bool) → i < length (instrs_at code b) → (IsTrue c ↔ LiveAfter code b i Cc) → IsSome (fit m c (instr_at i (instrs_at code b)))
 
 -- what stands in the place of a pair fits an entry
-recognised_fits : (m : Machine) (cc_live : Bool) (x : Joint ℕ Place Register Sym) (y : PlainInstr) → (recognised words places m cc_live x).got ≡ AsOne y → IsSome (fit m cc_live y)
+recognised_fits : (m : Machine) (cc_live : Bool) (x : Joint ℕ Place Register Sym) (y : PlainInstr) → (recognised words code_leaves m cc_live x).got ≡ AsOne y → IsSome (fit m cc_live y)
 recognised_fits m cc_live NotJoined y e = absurd (cc)
 recognised_fits m cc_live NothingLeft y e = absurd (cc)
 recognised_fits m cc_live (joint.AsOne ms) y e = go (fit m cc_live ms) refl e
@@ -132,6 +132,22 @@ module _ (m : Machine) (code : List PlainBlock) (b : ℕ) where
     pub current : Current (reverse_aux told rest)
     pub exact : Exact rest
 
+  -- the pair that is ready is well formed
+  stay_behind : (ds xs : List Ahead) → AllStay (reverse_aux ds xs) → AllStay xs
+  stay_behind [] xs s = s
+  stay_behind (d ∷ ds) xs s = (stay_behind ds (d ∷ xs) s).1
+
+  pub standing_formed : (d : PlainInstr) (done : List PlainInstr) (x : Ahead) (xs : List Ahead) → Standing (d ∷ done) (x ∷ xs)
+      → WellFormedPair (pair_with d x)
+  standing_formed d done x xs h = go h.told h.is_done h.current.stay
+    where
+      go : (told : List Ahead) → instrs_in told ≡ d ∷ done → AllStay (reverse_aux told (x ∷ xs)) → WellFormedPair (pair_with d x)
+      go [] e s = absurd (cc)
+      go (t ∷ ts) e s =
+          let first : t.instr ≡ d = (cc) in
+          let two = stay_behind ts (t ∷ x ∷ xs) s in
+          subst (λ (a : PlainInstr). WellFormedPair (pair_with a x)) first (pair_formed t.instr x two.0.formed two.1.0.formed)
+
   -- The steps
 
   dropped : (x : Ahead) (xs : List Ahead) → is_dead x.live x.instr ≡ true → AllStay (x ∷ xs) → EndsLast (instrs_in (x ∷ xs)) → Replaces xs (x ∷ xs)
@@ -170,7 +186,7 @@ module _ (m : Machine) (code : List PlainBlock) (b : ℕ) where
 
     -- one that has no transfer of control where the second has none
     none_where : (y : PlainInstr) → combination m (pair_with t.instr x) ≡ AsOne y → ending_of x.instr ≡ None → ending_of y ≡ None
-    none_where y i n = same_ending y ∙ none_of (parts.ending_of y) ((kept (AsOne y) i).control (ap (λ o. is_some o) (sym (same_ending x.instr) ∙ n)))
+    none_where y i n = none_of (ending_of y) ((kept (AsOne y) i).control (ap (λ o. is_some o) n))
 
     one_flows : (y : PlainInstr) → combination m (pair_with t.instr x) ≡ AsOne y → NoMore Out (y ∷ instrs_in xs) (t.instr ∷ x.instr ∷ instrs_in xs)
     one_flows y i v (inl f) = inl f
@@ -182,7 +198,7 @@ module _ (m : Machine) (code : List PlainBlock) (b : ℕ) where
     one y i =
         let ends = ends_one t.instr x.instr y (instrs_in xs) e (less (AsOne y) i) (none_where y i) in
         record {
-          stay = (record { formed = (kept (AsOne y) i).formed allowed; told = s.1.0.told; fits = λ f. recognised_fits m (x.live Cc) (joined words plainly (is_live_after (pair_with t.instr x)) (x.live Cc) t.instr x.instr).got y i }, s.1.1);
+          stay = (record { formed = (kept (AsOne y) i).formed allowed; told = s.1.0.told; fits = λ f. recognised_fits m (x.live Cc) (joined words code_leaves (is_live_after (pair_with t.instr x)) (x.live Cc) t.instr x.instr).got y i }, s.1.1);
           no_more = one_flows y i;
           last = ends.0;
           ending = ends.1;

@@ -15,10 +15,10 @@ use Rattle.po_slow.proofs.LivenessCode.{liveness_laws}
 use Rattle.po_slow.proofs.LivenessLast.{told_at_last}
 
 pub make_nothing_live : PassesMakeNothingLive
-make_nothing_live m code slowed pairs allowed formed s = (by_passes (liveness_laws m allowed) code slowed pairs formed s).0.live
+make_nothing_live m answer code scanned pairs allowed safe formed s = (by_passes (liveness_laws m allowed) answer safe code scanned pairs formed s).0.live
 
 -- two tests of one fact are one
-same_test : {P : Type 0} (a b : Bool) → IsTrue a ↔ P → IsTrue b ↔ P → a ≡ b
+pub same_test : {P : Type 0} (a b : Bool) → IsTrue a ↔ P → IsTrue b ↔ P → a ≡ b
 same_test true true h i = refl
 same_test true false h i = sym (i.1 (h.0 refl))
 same_test false true h i = h.1 (i.0 refl)
@@ -37,6 +37,7 @@ fit_recognised m code live tells fits = (live, tells, λ b i l. found (fit m (li
     found (Some x) h = (x, refl)
 
 pub keep_fit : PassesKeepFit
-keep_fit m code slowed pairs allowed formed s r =
-    let t = told_at_last m code slowed pairs s in
-    fit_recognised m slowed (λ b i. t.0 b i Cc) (λ b i l. t.1 b i Cc l) ((by_passes (liveness_laws m allowed) code slowed pairs formed s).0.fits (recognised_fit m code r))
+keep_fit m answer code scanned pairs allowed safe formed s r =
+    let t = told_at_last answer code scanned pairs s in
+    fit_recognised m scanned (λ b i. t.0 b i Cc) (λ b i l. t.1 b i Cc l)
+    ((by_passes (liveness_laws m allowed) answer safe code scanned pairs formed s).0.fits (recognised_fit m code r))

@@ -6,9 +6,7 @@ use Rattle.po_term.specs.declared.term.Sym.{Sym}
 use Rattle.po_term.specs.declared.term.Label.{Label}
 use Rattle.po_term.specs.Tree.{Tree, Const, Leaf, Read, Unary, Binary, EachLeaf}
 use Rattle.po_term.specs.Terms.{Place, InReg, AtSym}
-use Rattle.po_term.specs.Moves.{Ending, GoTo, IfCc, IfTwo, CallOf, Return, SetTo, CcTo, StoreTo, Ends}
-use Rattle.po_term.specs.Form.{PlainMove}
-use Rattle.po_model.specs.Blocks.{PlainInstr}
+use Rattle.po_term.specs.Moves.{Ending, GoTo, IfCc, IfTwo, CallOf, Return, SetTo, CcTo, StoreTo, Ends, PlainMove, PlainInstr}
 use Rattle.po_model.specs.UnitCodes.{HasSym, NamedEnding, NamedMove}
 use Rattle.po_subst.specs.KeepsEffect.{ending_labels, labels_in, term_syms, ending_syms, syms_in}
 use Rattle.po_slow.proofs.Onto.{all_split}

@@ -12,13 +12,12 @@ use Rattle.po_term.specs.declared.term.Reg.{Reg as Register}
 use Rattle.po_term.specs.declared.term.Reg.TheVariants.{Virt, Fp, Rv, Arg}
 use Rattle.po_term.specs.contracts.term.RegOrd.TheImpl.{cmp-value}
 use Rattle.po_term.specs.Terms.{InReg}
-use Rattle.po_term.specs.Moves.{SetTo, CcTo, StoreTo, Ends}
+use Rattle.po_term.specs.Moves.{SetTo, CcTo, StoreTo, Ends, PlainInstr}
 use Rattle.po_term.specs.Form.{WellFormed}
 use Rattle.po_term.specs.Simplified.{reg_eq}
 use Rattle.po_model.specs.declared.var.Var.{Var}
 use Rattle.po_model.specs.declared.var.Var.TheVariants.{Reg}
-use Rattle.po_model.specs.Blocks.{PlainInstr}
-use Rattle.po_model.specs.Parts.{plainly, right_at}
+use Rattle.po_model.specs.Parts.{code_leaves, right_at}
 use Rattle.po_model.specs.Pairs.{is_live_after, is_set_in, WellFormedPair}
 use Rattle.po_model.specs.Scanned.{Ahead, put_live, pair_with}
 use Rattle.po_subst.proofs.Agreeing.{one_register, reg_self}
@@ -72,7 +71,7 @@ any_put r q (x ∷ xs) = go (cmp-value.it q x) refl (any_put r q xs)
 is_set_more : (r q : Register) (t : _) (ms : PlainInstr) → is_set_in (SetTo q t ∷ ms) r ≡ (reg_eq r q || is_set_in ms r)
 is_set_more r q t ms = go (reg_eq r q)
   where
-    go : (c : Bool) → is_some (if c then Some t else right_at plainly (InReg r) ms) ≡ (c || is_set_in ms r)
+    go : (c : Bool) → is_some (if c then Some t else right_at code_leaves (InReg r) ms) ≡ (c || is_set_in ms r)
     go true = refl
     go false = refl
 

@@ -1,28 +1,36 @@
--- How a fact of all passes over a code is shown: by the steps of a scan within a block.
+-- How a fact of all passes over a code is shown, whatever safe answers the pairs get: by the steps of a scan within a block.
 use Rattle.std.proofs.Common.{◌≡◌, ℕ, zero, suc, ◌<◌, Bool, true, false, List, [], ◌∷◌, ◌++◌, length, reverse, map, refl, sym, ◌∙◌, ap, subst, arith, eqb-true}
 use Rattle.std.proofs.lemmas.Bool.{eqb-false}
-use Rattle.std.specs.Prelude.{if◌then◌else◌, ◌==◌, Option, Some, None, ⊤}
+use Rattle.std.specs.Prelude.{if◌then◌else◌, ◌==◌, Option, Some, ⊤}
 use Rattle.std.proofs.lemmas.List.{length-reverse, reverse-append, reverse-reverse}
 use mathlib.Core.Logic.{◌⊎◌, inl, inr}
 use Rattle.po_term.specs.declared.term.Label.{Label}
 use Rattle.po_model.specs.declared.machine.Machine.{Machine}
 use Rattle.po_model.specs.declared.var.Var.{Var}
-use Rattle.po_model.specs.Blocks.{PlainInstr, PlainBlock, instrs_at}
-use Rattle.po_model.specs.Pairs.{PlainPair}
-use Rattle.po_model.specs.Combined.{Kept, Gone, AsOne, combination}
-use Rattle.po_model.specs.Scanned.{Answer, Ahead, Stand, BlockAhead, InBlock, Scan, Within, Finished, ScanStep, Tried, Ended, is_dead, onward, pair_with, ready, settled, instrs_ahead, blocks_ahead, enter, Tells, IsPassStart, passed_with, AfterPass, AfterBlock, after_try, Goes, IsSlowed}
+use Rattle.po_model.specs.Blocks.{PlainBlock, instrs_at}
+use Rattle.po_model.specs.Pairs.{PlainPair, WellFormedPair}
+use Rattle.po_model.specs.Combined.{Kept, Gone, AsOne, combination, Answer}
+use Rattle.po_model.specs.Scanned.{Ahead, Stand, BlockAhead, InBlock, Scan, Within, Finished, ScanStep, Tried, Ended, is_dead, onward, pair_with, ready, settled, instrs_ahead, blocks_ahead, enter, Tells, IsPassStart, passed_with, AfterPass, AfterBlock, after_try, Answers, Goes, IsScanned, AreSafe}
+use Rattle.po_term.specs.Moves.{PlainInstr}
+
+-- the answers of slow combination are safe
+pub slow_safe : (m : Machine) → AreSafe m (combination m)
+slow_safe m p h = inr refl
 
 abbrev pub Told : Type 0
 Told = ℕ → ℕ → Var → Bool
 
 module _ (m : Machine) (Before : List PlainBlock → Type 0) (Becomes : List PlainBlock → List PlainBlock → Type 0) (Holds : List PlainBlock → Told → ℕ → List PlainInstr → List Ahead → Type 0) where
   -- Before holds of each code that a pass starts with; Becomes relates it to what passes make of it. Within a pass over the code, Holds
-  -- code live b done rest holds wherever the scan of the block b stands.
+  -- code live b done rest holds wherever the scan of the block b stands; where a pair is ready there, the pair is well formed.
   pub record Laws : Type 0 where
     pub joins : (a b c : List PlainBlock) → Becomes a b → Becomes b c → Becomes a c
     pub start : (code : List PlainBlock) (live : Told) → Before code → Tells code live → (b : ℕ) → b < length code → Holds code live b [] (instrs_ahead (live b) 0 (instrs_at code b))
     pub dropped : (code : List PlainBlock) (live : Told) → Before code → Tells code live → (b : ℕ) (done : List PlainInstr) (x : Ahead) (xs : List Ahead) → Holds code live b done (x ∷ xs) → is_dead x.live x.instr ≡ true → Holds code live b done xs
     pub taken : (code : List PlainBlock) (live : Told) → Before code → Tells code live → (b : ℕ) (done : List PlainInstr) (x : Ahead) (xs : List Ahead) → Holds code live b done (x ∷ xs) → Holds code live b (x.instr ∷ done) xs
+    pub formed : (code : List PlainBlock) (live : Told) → Before code → Tells code live
+        → (b : ℕ) (d : PlainInstr) (done : List PlainInstr) (x : Ahead) (xs : List Ahead)
+        → Holds code live b (d ∷ done) (x ∷ xs) → WellFormedPair (pair_with d x)
     pub gone : (code : List PlainBlock) (live : Told) → Before code → Tells code live → (b : ℕ) (d : PlainInstr) (done : List PlainInstr) (x : Ahead) (xs : List Ahead) → Holds code live b (d ∷ done) (x ∷ xs) → combination m (pair_with d x) ≡ Gone → Holds code live b done xs
     pub one : (code : List PlainBlock) (live : Told) → Before code → Tells code live → (b : ℕ) (d : PlainInstr) (done : List PlainInstr) (x : Ahead) (xs : List Ahead) (y : PlainInstr) → Holds code live b (d ∷ done) (x ∷ xs) → combination m (pair_with d x) ≡ AsOne y → Holds code live b done (record { instr = y; live = x.live } ∷ xs)
     -- a pass is over: each block has what was done of it
@@ -60,36 +68,6 @@ next_front : (xs : List PlainBlock) (y z : PlainBlock) (ys : List PlainBlock) �
 next_front [] y z ys = refl
 next_front (x ∷ xs) y z ys = ap (λ zs. x ∷ zs) (next_front xs y z ys)
 
--- a scan stands before an instruction only where one is done
-abbrev pub Stops : Stand → Type 0
-Stops s = s.done ≡ [] → s.rest ≡ []
-
-pub onward_stops : (done : List PlainInstr) (rest : List Ahead) (changed : Bool) → Stops (onward done rest changed)
-onward_stops done [] changed = λ e. refl
-onward_stops [] (x ∷ xs) changed = go (is_dead x.live x.instr) (onward_stops [] xs true) (onward_stops (x.instr ∷ []) xs changed)
-  where
-    go : (c : Bool) → Stops (onward [] xs true) → Stops (onward (x.instr ∷ []) xs changed) → Stops (if c then onward [] xs true else onward (x.instr ∷ []) xs changed)
-    go true f g = f
-    go false f g = g
-onward_stops (d ∷ ds) (x ∷ xs) changed = go (is_dead x.live x.instr) (onward_stops (d ∷ ds) xs true)
-  where
-    go : (c : Bool) → Stops (onward (d ∷ ds) xs true) → Stops (if c then onward (d ∷ ds) xs true else record { done = d ∷ ds; rest = x ∷ xs; changed = changed })
-    go true f = f
-    go false f = λ e. absurd (cc)
-
-pub settled_stops : (o : Answer) (done : List PlainInstr) (rest : List Ahead) (changed : Bool) (p : PlainPair) → ready done rest ≡ Some p → Stops (settled o done rest changed)
-settled_stops o [] rest changed p e = absurd (cc)
-settled_stops o (d ∷ ds) [] changed p e = absurd (cc)
-settled_stops Kept (d ∷ ds) (x ∷ xs) changed p e = onward_stops (x.instr ∷ d ∷ ds) xs changed
-settled_stops Gone (d ∷ ds) (x ∷ xs) changed p e = onward_stops ds xs true
-settled_stops (AsOne y) (d ∷ ds) (x ∷ xs) changed p e = onward_stops ds (record { instr = y; live = x.live } ∷ xs) true
-
--- where no pair is ready, nothing is to come
-pub nothing_comes : (done : List PlainInstr) (rest : List Ahead) → ready done rest ≡ None → (done ≡ [] → rest ≡ []) → rest ≡ []
-nothing_comes [] rest e h = h refl
-nothing_comes (d ∷ ds) [] e h = refl
-nothing_comes (d ∷ ds) (x ∷ xs) e h = absurd (cc)
-
 abbrev pub label_of : PlainBlock → Option Label
 label_of b = b.label
 
@@ -97,7 +75,9 @@ labels_append : (xs ys : List PlainBlock) → map label_of (xs ++ ys) ≡ map la
 labels_append [] ys = refl
 labels_append (x ∷ xs) ys = ap (λ ls. x.label ∷ ls) (labels_append xs ys)
 
-module _ {m : Machine} {Before : List PlainBlock → Type 0} {Becomes : List PlainBlock → List PlainBlock → Type 0} {Holds : List PlainBlock → Told → ℕ → List PlainInstr → List Ahead → Type 0} (laws : Laws m Before Becomes Holds) where
+module _ {m : Machine} {Before : List PlainBlock → Type 0} {Becomes : List PlainBlock → List PlainBlock → Type 0}
+    {Holds : List PlainBlock → Told → ℕ → List PlainInstr → List Ahead → Type 0} (laws : Laws m Before Becomes Holds)
+    (answer : Answers) (safe : AreSafe m answer) where
   module _ (code : List PlainBlock) (live : Told) (before : Before code) (tells : Tells code live) where
     abbrev HoldsAt : ℕ → Stand → Type 0
     HoldsAt b s = Holds code live b s.done s.rest
@@ -115,16 +95,29 @@ module _ {m : Machine} {Before : List PlainBlock → Type 0} {Becomes : List Pla
         go true e f = f e
         go false e f = h
 
-    settled_holds : (b : ℕ) (done : List PlainInstr) (rest : List Ahead) (changed : Bool) (p : PlainPair) → ready done rest ≡ Some p → Holds code live b done rest → HoldsAt b (settled (combination m p) done rest changed)
+    settled_holds : (b : ℕ) (done : List PlainInstr) (rest : List Ahead) (changed : Bool) (p : PlainPair)
+        → ready done rest ≡ Some p → Holds code live b done rest → HoldsAt b (settled (answer p) done rest changed)
     settled_holds b [] rest changed p e h = absurd (cc)
     settled_holds b (d ∷ ds) [] changed p e h = absurd (cc)
     settled_holds b (d ∷ ds) (x ∷ xs) changed p e h =
-        let q : pair_with d x ≡ p = (cc) in subst (λ (p : PlainPair). HoldsAt b (settled (combination m p) (d ∷ ds) (x ∷ xs) changed)) q (go (combination m (pair_with d x)) refl)
+        let q : pair_with d x ≡ p = (cc) in
+        subst (λ (p : PlainPair). HoldsAt b (settled (answer p) (d ∷ ds) (x ∷ xs) changed)) q (go (answer (pair_with d x)) refl)
       where
-        go : (o : Answer) → combination m (pair_with d x) ≡ o → HoldsAt b (settled o (d ∷ ds) (x ∷ xs) changed)
+        -- an answer that doesn't keep the pair is that of slow combination
+        slow : (o : Answer) → answer (pair_with d x) ≡ o → (o ≡ Kept → ⊥) → combination m (pair_with d x) ≡ o
+        slow o i n = either (safe (pair_with d x) (laws.formed code live before tells b d ds x xs h))
+          where
+            either : (answer (pair_with d x) ≡ Kept) ⊎ (answer (pair_with d x) ≡ combination m (pair_with d x))
+                → combination m (pair_with d x) ≡ o
+            either (inl k) = absurd (n (sym i ∙ k))
+            either (inr k) = sym k ∙ i
+
+        go : (o : Answer) → answer (pair_with d x) ≡ o → HoldsAt b (settled o (d ∷ ds) (x ∷ xs) changed)
         go Kept i = onward_holds b (x.instr ∷ d ∷ ds) xs changed (laws.taken code live before tells b (d ∷ ds) x xs h)
-        go Gone i = onward_holds b ds xs true (laws.gone code live before tells b d ds x xs h i)
-        go (AsOne y) i = onward_holds b ds (record { instr = y; live = x.live } ∷ xs) true (laws.one code live before tells b d ds x xs y h i)
+        go Gone i = onward_holds b ds xs true (laws.gone code live before tells b d ds x xs h (slow Gone i (λ k. absurd (cc))))
+        go (AsOne y) i =
+            onward_holds b ds (record { instr = y; live = x.live } ∷ xs) true
+            (laws.one code live before tells b d ds x xs y h (slow (AsOne y) i (λ k. absurd (cc))))
 
     -- each block that was passed has what was done of it
     abbrev AllDone : List PlainBlock → Type 0
@@ -158,7 +151,6 @@ module _ {m : Machine} {Before : List PlainBlock → Type 0} {Becomes : List Pla
       coming : s.coming ≡ blocks_ahead live (suc (length s.passed)) more
       passed : AllDone s.passed
       holds : HoldsAt (length s.passed) s.stand
-      stops : Stops s.stand
 
     -- into the first block, and into the next one
     entered : (front : List PlainBlock) (b : PlainBlock) (more : List PlainBlock) (passed : List PlainBlock) (changed : Bool)
@@ -179,11 +171,10 @@ module _ {m : Machine} {Before : List PlainBlock → Type 0} {Becomes : List Pla
           passed = done;
           holds = onward_holds (length passed) [] (instrs_ahead (live (length passed)) 0 b.instrs) changed
               (subst (λ (is : List PlainInstr). Holds code live (length passed) [] (instrs_ahead (live (length passed)) 0 is)) i (laws.start code live before tells (length passed) k));
-          stops = onward_stops [] (instrs_ahead (live (length passed)) 0 b.instrs) changed;
         }
 
     tried_on : (s : InBlock) (p : PlainPair) → ready s.stand.done s.stand.rest ≡ Some p → InPass s
-        → InPass (record { label = s.label; stand = settled (combination m p) s.stand.done s.stand.rest s.stand.changed; passed = s.passed; coming = s.coming })
+        → InPass (record { label = s.label; stand = settled (answer p) s.stand.done s.stand.rest s.stand.changed; passed = s.passed; coming = s.coming })
     tried_on s p e h = record {
       front = h.front;
       here = h.here;
@@ -195,21 +186,19 @@ module _ {m : Machine} {Before : List PlainBlock → Type 0} {Becomes : List Pla
       coming = h.coming;
       passed = h.passed;
       holds = settled_holds (length s.passed) s.stand.done s.stand.rest s.stand.changed p e h.holds;
-      stops = settled_stops (combination m p) s.stand.done s.stand.rest s.stand.changed p e;
     }
 
     -- the block is done
-    done_here : (s : InBlock) → InPass s → ready s.stand.done s.stand.rest ≡ None → AllDone (passed_with s)
+    done_here : (s : InBlock) → InPass s → s.stand.rest ≡ [] → AllDone (passed_with s)
     done_here s h e =
-        let n : s.stand.rest ≡ [] = nothing_comes s.stand.done s.stand.rest e h.stops in
-        (rw (reverse-reverse s.stand.done) (subst (λ (rest : List Ahead). Holds code live (length s.passed) s.stand.done rest) n h.holds), h.passed)
+        (rw (reverse-reverse s.stand.done) (subst (λ (rest : List Ahead). Holds code live (length s.passed) s.stand.done rest) e h.holds), h.passed)
 
     labels_with : (s : InBlock) (h : InPass s) → map label_of (reverse (passed_with s)) ≡ map label_of (h.front ++ h.here ∷ [])
     labels_with s h =
         rw (reverse-cons (record { label = s.label; instrs = reverse s.stand.done }) s.passed, labels_append (reverse s.passed) (record { label = s.label; instrs = reverse s.stand.done } ∷ []), labels_append h.front (h.here ∷ []), h.labels, h.label) refl
 
     -- the next block, where one comes
-    passed_on : (s : InBlock) (h : InPass s) → ready s.stand.done s.stand.rest ≡ None → (c : PlainBlock) (more : List PlainBlock) → h.more ≡ c ∷ more
+    passed_on : (s : InBlock) (h : InPass s) → s.stand.rest ≡ [] → (c : PlainBlock) (more : List PlainBlock) → h.more ≡ c ∷ more
         → InPass (record { label = c.label; stand = onward [] (instrs_ahead (live (suc (length s.passed))) 0 c.instrs) s.stand.changed; passed = passed_with s; coming = blocks_ahead live (suc (suc (length s.passed))) more })
     passed_on s h e c more i =
         entered (h.front ++ h.here ∷ []) c more (passed_with s) s.stand.changed
@@ -218,7 +207,7 @@ module _ {m : Machine} {Before : List PlainBlock → Type 0} {Becomes : List Pla
         (labels_with s h) (done_here s h e)
 
     -- the pass is over, where none comes
-    passed_over : (s : InBlock) (h : InPass s) → ready s.stand.done s.stand.rest ≡ None → h.more ≡ [] → Becomes code (reverse (passed_with s)) × Before (reverse (passed_with s))
+    passed_over : (s : InBlock) (h : InPass s) → s.stand.rest ≡ [] → h.more ≡ [] → Becomes code (reverse (passed_with s)) × Before (reverse (passed_with s))
     passed_over s h e i =
         let whole : h.front ++ h.here ∷ [] ≡ code = sym (h.whole ∙ ap (λ z. h.front ++ h.here ∷ z) i) in
         let n : length (passed_with s) ≡ length code = sym (ap length (sym whole) ∙ one_more h.front h.here ∙ ap suc h.as_many) in
@@ -268,7 +257,7 @@ module _ {m : Machine} {Before : List PlainBlock → Type 0} {Becomes : List Pla
         pass = entered code live before tells [] b more [] false i refl refl tt;
       }
 
-  ended : (first : List PlainBlock) (s : InBlock) (t : Scan) → Under first s → ready s.stand.done s.stand.rest ≡ None → AfterBlock s.coming s t → Stood first t
+  ended : (first : List PlainBlock) (s : InBlock) (t : Scan) → Under first s → s.stand.rest ≡ [] → AfterBlock s.coming s t → Stood first t
   ended first s t h e after = go h.pass.more refl
     where
       over : (changed : Bool) (next : List PlainBlock) → Becomes h.code next → Before next → AfterPass changed next t → Stood first t
@@ -292,15 +281,17 @@ module _ {m : Machine} {Before : List PlainBlock → Type 0} {Becomes : List Pla
             pass = passed_on h.code h.live h.before h.tells s h.pass e b more i;
           })
 
-  stepped : (first : List PlainBlock) (s : Scan) (steps : List ScanStep) (t : Scan) → Stood first s → Goes m s steps t → Stood first t
+  stepped : (first : List PlainBlock) (s : Scan) (steps : List ScanStep) (t : Scan) → Stood first s → Goes answer s steps t → Stood first t
   stepped first s [] t h g = subst (λ (s : Scan). Stood first s) (sym g) h
   stepped first (Within s) (Tried p ∷ steps) t h g =
-      stepped first (after_try (combination m p) (Within s)) steps t
+      stepped first (after_try (answer p) (Within s)) steps t
       (record { code = h.code; live = h.live; tells = h.tells; before = h.before; reached = h.reached; pass = tried_on h.code h.live h.before h.tells s p g.0 h.pass })
       g.1
   stepped first (Finished code) (Tried p ∷ steps) t h g = absurd (cc)
   stepped first (Within s) (Ended ∷ steps) t h (u, a, g) = stepped first u steps t (ended first s u h a.0 a.1) g
   stepped first (Finished code) (Ended ∷ steps) t h (u, a, g) = absurd a
 
-  pub by_passes : (code slowed : List PlainBlock) (pairs : List PlainPair) → Before code → IsSlowed m code pairs slowed → Becomes code slowed × Before slowed
-  by_passes code slowed pairs before (steps, (start, first, goes), e) = stepped code start steps (Finished slowed) (started code code start (inl refl) before first) goes
+  pub by_passes : (code scanned : List PlainBlock) (pairs : List PlainPair) → Before code → IsScanned answer code pairs scanned
+      → Becomes code scanned × Before scanned
+  by_passes code scanned pairs before (steps, (start, first, goes), e) =
+      stepped code start steps (Finished scanned) (started code code start (inl refl) before first) goes

@@ -5,12 +5,12 @@ use Rattle.std.proofs.lemmas.List.{append-nil, reverse-reverse, reverse-append, 
 use Rattle.std.proofs.lemmas.List.Elements.{All-nil, All-cons, All-head, All-tail, All-append, All-take, All-drop, All-same}
 use Rattle.po_model.specs.declared.pair.Live.{Live}
 use Rattle.po_model.specs.Blocks.{PlainBlock}
-use Rattle.po_model.specs.Scanned.{InBlock, Scan, Within, Finished, instrs_ahead, blocks_ahead, enter, IsPassStart, AfterPass, AfterBlock, AfterEnd, passed_with}
+use Rattle.po_model.specs.Scanned.{InBlock, Scan, Within, Finished, instrs_ahead, blocks_ahead, enter, IsPassStart, AfterPass, AfterBlock, IsAtEnd, AfterEnd, passed_with}
 use Rattle.po_slow.specs.declared.block.Standing.{Standing}
-use Rattle.po_slow.specs.Passes.{IsFormedCode}
-use Rattle.po_slow.specs.States.{stand_at, place_in, told, place_of, enter_at, IsAtEnd, IsFormedList, IsFormedScan, IsCut}
+use Rattle.po_slow.specs.States.{stand_at, place_in, told, scan_by, enter_at, IsFormedList, IsFormedScan, IsCut}
 use Rattle.po_slow.proofs.Keeping.{all_reverse, ahead_instrs, formed_code, formed_blocks, formed_enter, formed_ahead}
 use Rattle.po_slow.proofs.Places.{BlockAt, block_at, at_end_next}
+use Rattle.po_model.specs.UnitCodes.{IsFormedCode}
 
 abbrev IsFormedOne : PlainBlock → Type 0
 IsFormedOne x = IsFormedList x.instrs
@@ -23,7 +23,7 @@ module _ (code : List PlainBlock) (lives : List (Vec Live)) (b : ℕ) (at : Stan
   abbrev here : InBlock
   here = record { label = at_block.block.label; stand = stand_at at_block.block.instrs (told lives b) at.done at.next at.changed; passed = reverse (take b code); coming = blocks_ahead (told lives) (suc b) (drop (suc b) code) }
 
-  is_here : place_of code lives b at ≡ Within here
+  is_here : scan_by code lives b at ≡ Within here
   is_here = ap (place_in (told lives) b at.done at.next at.changed (reverse (take b code))) at_block.dropped
 
   -- all of the block is done
@@ -42,7 +42,7 @@ module _ (code : List PlainBlock) (lives : List (Vec Live)) (b : ℕ) (at : Stan
   passed_in_order = ap reverse passed_are ∙ reverse-reverse (take (suc b) code)
 
   -- into the next block, or to the finish after a pass that changed nothing
-  pub after_next : (t : Scan) → (at.changed ≡ true → b + 1 < length code) → t ≡ enter_at code lives (b + 1) at.changed → AfterEnd (place_of code lives b at) t
+  pub after_next : (t : Scan) → (at.changed ≡ true → b + 1 < length code) → t ≡ enter_at code lives (b + 1) at.changed → AfterEnd (scan_by code lives b at) t
   after_next t same e = subst (λ s. AfterEnd s t) (sym is_here) (at_end, go (drop (suc b) code) refl at.changed refl)
     where
       entered : t ≡ enter (passed_with here) (blocks_ahead (told lives) (suc b) (drop (suc b) code)) at.changed
@@ -57,7 +57,7 @@ module _ (code : List PlainBlock) (lives : List (Vec Live)) (b : ℕ) (at : Stan
           subst (λ l. AfterBlock (blocks_ahead (told lives) (suc b) l) here t) (sym d) (entered ∙ ap (λ l. enter (passed_with here) (blocks_ahead (told lives) (suc b) l) at.changed) d)
 
   -- into the first block, in one pass more
-  pub after_last : (t : Scan) → b + 1 ≡ length code → at.changed ≡ true → IsPassStart code t → AfterEnd (place_of code lives b at) t
+  pub after_last : (t : Scan) → b + 1 ≡ length code → at.changed ≡ true → IsPassStart code t → AfterEnd (scan_by code lives b at) t
   after_last t last changed start =
       let d : drop (suc b) code ≡ [] = drop_all (suc b) code (omega arith) in
       let whole : reverse (passed_with here) ≡ code = passed_in_order ∙ take_all (suc b) code (omega arith) in
@@ -65,7 +65,7 @@ module _ (code : List PlainBlock) (lives : List (Vec Live)) (b : ℕ) (at : Stan
       subst (λ s. AfterEnd s t) (sym is_here) (at_end, subst (λ l. AfterBlock (blocks_ahead (told lives) (suc b) l) here t) (sym d) (subst (λ v. AfterPass v (reverse (passed_with here)) t) (sym changed) pass))
 
   -- the code is well formed
-  pub formed_cut : IsFormedScan (place_of code lives b at) → IsFormedCode code
+  pub formed_cut : IsFormedScan (scan_by code lives b at) → IsFormedCode code
   formed_cut f = formed_code code (All-same IsFormedOne code (take b code ++ drop b code) (sym (take-append-drop b code)) (All-append IsFormedOne (take b code) (drop b code) before (All-same IsFormedOne (drop b code) (at_block.block ∷ drop (suc b) code) at_block.dropped (All-cons IsFormedOne at_block.block (drop (suc b) code) one (unahead (suc b) (drop (suc b) code) g.coming)))))
     where
       g : IsFormedScan (Within here)

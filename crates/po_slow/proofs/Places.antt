@@ -4,10 +4,11 @@ use Rattle.std.proofs.lemmas.List.{append-nil, reverse-reverse, take-append-drop
 use Rattle.std.specs.Global.{Vec}
 use Rattle.po_model.specs.declared.pair.Live.{Live}
 use Rattle.po_model.specs.declared.var.Var.{Var}
-use Rattle.po_model.specs.Blocks.{PlainInstr, PlainBlock, instrs_at}
-use Rattle.po_model.specs.Scanned.{Ahead, InBlock, Scan, Within, Finished, instrs_ahead, blocks_ahead, ready}
+use Rattle.po_model.specs.Blocks.{PlainBlock, instrs_at}
+use Rattle.po_model.specs.Scanned.{InBlock, Scan, Within, Finished, instrs_ahead, blocks_ahead, ready, pair_ready, IsAtEnd}
 use Rattle.po_slow.specs.declared.block.Standing.{Standing}
-use Rattle.po_slow.specs.States.{stand_at, place_in, place_at, told, place_of, cut, IsAtEnd, IsFinished, IsFormedScan, IsPlaced, IsCut}
+use Rattle.po_slow.specs.States.{stand_at, place_in, place_at, told, scan_by, cut, IsFinished, IsFormedScan, IsPlaced, IsCut}
+use Rattle.po_term.specs.Moves.{PlainInstr}
 
 -- at the finish all blocks are passed
 pub finished_at : (code : List PlainBlock) (live : ℕ → ℕ → Var → Bool) (b done next : ℕ) (changed : Bool) → IsFinished (place_at code live b done next changed) → place_at code live b done next changed ≡ Finished code
@@ -31,30 +32,40 @@ block_at (y ∷ ys) (suc b) h =
     let r = block_at ys b (omega arith) in
     record { block = r.block; dropped = r.dropped; taken = ap (λ zs. y ∷ zs) r.taken; instrs = r.instrs }
 
-ready_nil : (ds : List PlainInstr) → ready ds [] ≡ None
+pub ready_nil : (ds : List PlainInstr) → ready ds [] ≡ None
 ready_nil [] = refl
 ready_nil (d ∷ ds) = refl
 
--- no pair is ready where nothing is done, or nothing is to come
-pub at_end_done : (code : List PlainBlock) (lives : List (Vec Live)) (b : ℕ) (at : Standing) → b < length code → at.done ≡ 0 → IsAtEnd (place_of code lives b at)
-at_end_done code lives b at h e =
-    let r = block_at code b h in
-    let xs = r.block.instrs in
-    subst (λ l. IsAtEnd (place_in (told lives) b at.done at.next at.changed (reverse (take b code)) l)) (sym r.dropped)
-    (ap (λ n. ready (reverse (take n xs)) (instrs_ahead (told lives b) at.next (drop at.next xs))) e)
+module _ (code : List PlainBlock) (lives : List (Vec Live)) (b : ℕ) (at : Standing) (h : b < length code) where
+  -- where it stands, before these blocks
+  abbrev before : List PlainBlock → Scan
+  before xs = place_in (told lives) b at.done at.next at.changed (reverse (take b code)) xs
 
-pub at_end_next : (code : List PlainBlock) (lives : List (Vec Live)) (b : ℕ) (at : Standing) → b < length code → length (instrs_at code b) ≤ at.next → IsAtEnd (place_of code lives b at)
-at_end_next code lives b at h e =
-    let r = block_at code b h in
-    let xs = r.block.instrs in
-    let all : drop at.next xs ≡ [] = drop_all at.next xs (omega (arith, ap length r.instrs)) in
-    subst (λ l. IsAtEnd (place_in (told lives) b at.done at.next at.changed (reverse (take b code)) l)) (sym r.dropped)
-    (ap (λ l. ready (reverse (take at.done xs)) (instrs_ahead (told lives b) at.next l)) all ∙ ready_nil (reverse (take at.done xs)))
+  -- no pair is ready where nothing is done
+  pub none_done : at.done ≡ 0 → pair_ready (scan_by code lives b at) ≡ None
+  none_done e =
+      let r = block_at code b h in
+      let xs = r.block.instrs in
+      subst (λ l. pair_ready (before l) ≡ None) (sym r.dropped)
+      (ap (λ n. ready (reverse (take n xs)) (instrs_ahead (told lives b) at.next (drop at.next xs))) e)
+
+  -- the block is at its end where nothing is to come, and so it is where nothing is done
+  pub at_end_next : length (instrs_at code b) ≤ at.next → IsAtEnd (scan_by code lives b at)
+  at_end_next e =
+      let r = block_at code b h in
+      let all : drop at.next r.block.instrs ≡ [] = drop_all at.next r.block.instrs (omega (arith, ap length r.instrs)) in
+      subst (λ l. IsAtEnd (before l)) (sym r.dropped) (ap (λ l. instrs_ahead (told lives b) at.next l) all)
+
+  pub at_end_done : IsFormedScan (scan_by code lives b at) → at.done ≡ 0 → IsAtEnd (scan_by code lives b at)
+  at_end_done f e =
+      let r = block_at code b h in
+      let here : IsFormedScan (before (r.block ∷ drop (suc b) code)) = subst (λ l. IsFormedScan (before l)) r.dropped f in
+      subst (λ l. IsAtEnd (before l)) (sym r.dropped) (here.onward (ap (λ n. reverse (take n r.block.instrs)) e))
 
 -- a scan at the end of a block
 
 -- it is within a block
-pub end_block : (code : List PlainBlock) (lives : List (Vec Live)) (b : ℕ) (at : Standing) → IsAtEnd (place_of code lives b at) → b < length code
+pub end_block : (code : List PlainBlock) (lives : List (Vec Live)) (b : ℕ) (at : Standing) → IsAtEnd (scan_by code lives b at) → b < length code
 end_block code lives b at h = go (drop b code) (sym (length-drop b code)) h
   where
     go : (l : List PlainBlock) → length code - b ≡ length l → IsAtEnd (place_in (told lives) b at.done at.next at.changed (reverse (take b code)) l) → b < length code
@@ -62,17 +73,12 @@ end_block code lives b at h = go (drop b code) (sym (length-drop b code)) h
     go (x ∷ xs) e h = omega arith
 
 -- nothing is to come
-rest_nil : (done : List PlainInstr) (rest : List Ahead) → ready done rest ≡ None → (done ≡ [] → rest ≡ []) → rest ≡ []
-rest_nil [] rest e f = f refl
-rest_nil (d ∷ ds) [] e f = refl
-rest_nil (d ∷ ds) (x ∷ xs) e f = absurd (cc)
-
-pub rest_at_end : (s : Scan) → IsAtEnd s → IsFormedScan s → (t : InBlock) → s ≡ Within t → t.stand.rest ≡ []
-rest_at_end (Within s) e f t i = subst (λ u. u.stand.rest ≡ []) (within_same i) (rest_nil s.stand.done s.stand.rest e f.onward)
+pub rest_at_end : (s : Scan) → IsAtEnd s → (t : InBlock) → s ≡ Within t → t.stand.rest ≡ []
+rest_at_end (Within s) e t i = subst (λ u. u.stand.rest ≡ []) (within_same i) e
   where
     within_same : {s t : InBlock} → Within s ≡ Within t → s ≡ t
     within_same i = (cc)
-rest_at_end (Finished code) e f t i = absurd e
+rest_at_end (Finished code) e t i = absurd e
 
 -- A block that is cut
 
@@ -120,14 +126,14 @@ cut_stand live xs done next changed e =
     (λ i. record { done = reverse (d i); rest = (r ∙ sym e) i; changed = changed })
 
 -- a scan at the end of a block stays where it is as the block is cut
-pub cut_same : (code : List PlainBlock) (lives : List (Vec Live)) (b : ℕ) (at : Standing) → IsFormedScan (place_of code lives b at) → IsAtEnd (place_of code lives b at)
-    → place_at (cut code b at.done) (told lives) b at.done at.done at.changed ≡ place_of code lives b at
-cut_same code lives b at f e =
+pub cut_same : (code : List PlainBlock) (lives : List (Vec Live)) (b : ℕ) (at : Standing) → IsAtEnd (scan_by code lives b at)
+    → place_at (cut code b at.done) (told lives) b at.done at.done at.changed ≡ scan_by code lives b at
+cut_same code lives b at e =
     let r = block_at code b (end_block code lives b at e) in
     let x = r.block in
     let here : InBlock = record { label = x.label; stand = stand_at x.instrs (told lives b) at.done at.next at.changed; passed = reverse (take b code); coming = blocks_ahead (told lives) (suc b) (drop (suc b) code) } in
-    let old : place_of code lives b at ≡ Within here = ap (place_in (told lives) b at.done at.next at.changed (reverse (take b code))) r.dropped in
-    let none = rest_at_end (place_of code lives b at) e f here old in
+    let old : scan_by code lives b at ≡ Within here = ap (place_in (told lives) b at.done at.next at.changed (reverse (take b code))) r.dropped in
+    let none = rest_at_end (scan_by code lives b at) e here old in
     (λ i. place_in (told lives) b at.done at.done at.changed (reverse (cut_take code b at.done i)) (cut_drop code b at.done x (drop (suc b) code) r.dropped i))
     ∙ (ap (λ st. Within (record { label = x.label; stand = st; passed = reverse (take b code); coming = blocks_ahead (told lives) (suc b) (drop (suc b) code) })) (cut_stand (told lives b) x.instrs at.done at.next at.changed none) ∙ sym old)
 

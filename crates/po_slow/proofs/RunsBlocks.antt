@@ -4,14 +4,14 @@ use Rattle.std.specs.Prelude.{All, Option, Some, None}
 use Rattle.po_term.specs.Terms.{State}
 use Rattle.po_model.specs.declared.var.Var.{Var}
 use Rattle.po_model.specs.Blocks.{PlainBlock, instrs_at, EndsLast, ending_at}
-use Rattle.po_model.specs.Effect.{Control, Done}
+use Rattle.po_model.specs.Effect.{Control, Effected}
 use Rattle.po_model.specs.Run.{Reply, IsReply, Call, Stop, Before, Behind, Run, leave_done, run_block, and_run, own_doings, run, LiveWhere}
-use Rattle.po_slow.specs.Passes.{IsLiveAt}
 use Rattle.po_slow.proofs.Passes.{label_of}
 use Rattle.po_slow.proofs.RunsRead.{Agree, Alike, alike_joins, agree_less, agree_self, agree_joins}
 use Rattle.po_slow.proofs.RunsReplace.{doing, Back, AreFormed, Replaces, doing_agree}
 use Rattle.po_slow.proofs.RunsWithin.{OutOf, back_live}
 use Rattle.po_slow.proofs.RunsLeave.{MayGo, block_may, Together, BothStand, leave_stands}
+use Rattle.po_model.specs.LiveAfter.{IsLiveAt}
 
 -- Runs that stand alike
 
@@ -48,7 +48,7 @@ second_together code next x y t = record {
   agree = agree_self (LiveWhere next y.at) y.state t.agree.second;
 }
 
-both_join : (code : List PlainBlock) (o p q : Option Run) → BothStand code o p → BothStand code p q → BothStand code o q
+pub both_join : (code : List PlainBlock) (o p q : Option Run) → BothStand code o p → BothStand code p q → BothStand code o q
 both_join code None None q h k = k
 both_join code (Some x) (Some y) (Some z) h k = record {
   stop = h.stop ∙ k.stop;
@@ -72,7 +72,7 @@ module _ (code next : List PlainBlock) (labels : map label_of next ≡ map label
       (doing_agree (OutOf code b) (instrs_at code b) s t (formed b) (ends b) (agree_less (LiveWhere code (Before b)) (Back (instrs_at code b) (OutOf code b)) s t (λ v h. back_live code b (instrs_at code b) v h) a))
       (same b t a.second)
 
-  done_stands : (b : ℕ) (o p : Option Done) (calls : List Call) (replies : List Reply) → ((d : Done) → o ≡ Some d → MayGo code (ending_at code b) d.to) → All IsReply replies
+  done_stands : (b : ℕ) (o p : Option Effected) (calls : List Call) (replies : List Reply) → ((d : Effected) → o ≡ Some d → MayGo code (ending_at code b) d.to) → All IsReply replies
       → Alike (OutOf code b) o p → BothStand code (leave_done code b o calls replies) (leave_done next b p calls replies)
   done_stands b None None calls replies g h a = tt
   done_stands b (Some d) (Some e) calls replies g h a =

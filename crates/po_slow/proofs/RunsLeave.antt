@@ -11,19 +11,18 @@ use Rattle.po_term.specs.declared.term.Reg.TheVariants.{Rv}
 use Rattle.po_term.specs.declared.term.Sym.{Sym}
 use Rattle.po_term.specs.declared.term.Label.{Label}
 use Rattle.po_term.specs.Terms.{Place, InReg, State, IsState, value}
-use Rattle.po_term.specs.Moves.{Ending, GoTo, IfCc, IfTwo, CallOf, Return}
+use Rattle.po_term.specs.Moves.{Ending, GoTo, IfCc, IfTwo, CallOf, Return, PlainInstr}
 use Rattle.po_term.specs.Simplified.{reg_eq, same_register}
 use Rattle.po_model.specs.declared.var.Var.{Var}
 use Rattle.po_model.specs.declared.var.Var.TheVariants.{Reg}
-use Rattle.po_model.specs.Blocks.{PlainInstr, PlainBlock, instrs_at, EndsLast, block_ending, block_with, target_by, goes_on, is_at, ending_at, leads}
-use Rattle.po_model.specs.Parts.{ending_of as end_of}
-use Rattle.po_model.specs.Effect.{Control, Next, Jump, Called, Returned, Done, after, branch, by_cc, goes, effect}
+use Rattle.po_model.specs.Blocks.{PlainBlock, instrs_at, EndsLast, block_ending, block_with, target_by, goes_on, is_at, ending_at, leads}
+use Rattle.po_model.specs.Parts.{ending_of}
+use Rattle.po_model.specs.Effect.{Control, Next, Jump, Called, Returned, Effected, after, branch, by_cc, goes, effect}
 use Rattle.po_model.specs.LiveAfter.{is_reg, is_cc}
 use Rattle.po_model.specs.Run.{Write, Reply, IsReply, Call, Before, Behind, Run, written, replied, if_there, stands_before, answered, leave, LiveWhere}
 use Rattle.po_subst.proofs.Reading.{left_true, right_true}
 use Rattle.po_slow.proofs.Passes.{label_of}
 use Rattle.po_slow.proofs.Blockwise.{same_length, label_block}
-use Rattle.po_slow.proofs.LivenessEndings.{same_ending}
 use Rattle.po_slow.proofs.RunsRead.{Variables, Passing, Agree, agree_less, if_fits, reg_swap}
 use Rattle.po_slow.proofs.RunsReplace.{doing, doing_next, alone}
 use Rattle.po_slow.proofs.RunsWithin.{OutOf}
@@ -68,17 +67,17 @@ module _ (code : List PlainBlock) where
       go (Called h ws) i = absurd (cc)
       go (Returned w) i = tt
 
-  effect_may : (x : PlainInstr) (s : State) (d : Done) → effect x s ≡ Some d → MayGo (end_of x) d.to
-  effect_may x s d e = go (goes s (end_of x)) refl e
+  effect_may : (x : PlainInstr) (s : State) (d : Effected) → effect x s ≡ Some d → MayGo (ending_of x) d.to
+  effect_may x s d e = go (goes s (ending_of x)) refl e
     where
-      go : (o : Option Control) → goes s (end_of x) ≡ o → option_map (λ c. record { state = after s x; to = c }) o ≡ Some d → MayGo (end_of x) d.to
+      go : (o : Option Control) → goes s (ending_of x) ≡ o → option_map (λ c. record { state = after s x; to = c }) o ≡ Some d → MayGo (ending_of x) d.to
       go None i j = absurd (cc)
-      go (Some c) i j = let n : record { state = after s x; to = c } ≡ d = (cc) in may_go s (end_of x) d.to (i ∙ ap (λ (z : Done). Some z.to) n)
+      go (Some c) i j = let n : record { state = after s x; to = c } ≡ d = (cc) in may_go s (ending_of x) d.to (i ∙ ap (λ (z : Effected). Some z.to) n)
 
   -- behind a block, by its last instruction
-  pub block_may : (xs : List PlainInstr) → EndsLast xs → (s : State) (d : Done) → doing xs s ≡ Some d → MayGo (block_ending xs) d.to
-  block_may [] k s d e = let n : record { state = s; to = Next } ≡ d = (cc) in subst (λ (z : Done). MayGo None z.to) n refl
-  block_may (x ∷ []) k s d e = subst (λ o. MayGo o d.to) (sym (same_ending x)) (effect_may x s d (sym (alone (effect x s)) ∙ e))
+  pub block_may : (xs : List PlainInstr) → EndsLast xs → (s : State) (d : Effected) → doing xs s ≡ Some d → MayGo (block_ending xs) d.to
+  block_may [] k s d e = let n : record { state = s; to = Next } ≡ d = (cc) in subst (λ (z : Effected). MayGo None z.to) n refl
+  block_may (x ∷ []) k s d e = effect_may x s d (sym (alone (effect x s)) ∙ e)
   block_may (x ∷ y ∷ ys) k s d e = block_may (y ∷ ys) k.1 (after s x) d (sym (doing_next x k.0 (y ∷ ys) s) ∙ e)
 
   at_some : (o : Option ℕ) (q : ℕ) → o ≡ Some q → is_at q o ≡ true

@@ -1,29 +1,30 @@
 -- All passes over a code keep its runs.
-use Rattle.std.proofs.Common.{◌≡◌, ℕ, zero, suc, ◌<◌, List, [], ◌∷◌, length, reverse, map, subst, arith}
+use Rattle.std.proofs.Common.{◌≡◌, ℕ, zero, suc, ◌<◌, List, [], ◌∷◌, length, reverse, map, refl, subst, arith}
 use Rattle.std.specs.Prelude.{All, Option, Some, None}
 use Rattle.std.proofs.lemmas.List.Elements.{All-nil, All-cons, All-head, All-tail}
 use Rattle.po_term.specs.Terms.{State}
 use Rattle.po_term.specs.Form.{WellFormed}
 use Rattle.po_model.specs.declared.machine.Machine.{Machine}
-use Rattle.po_model.specs.Blocks.{PlainInstr, PlainBlock, instrs_at, EndsLast}
+use Rattle.po_model.specs.Blocks.{PlainBlock, instrs_at, EndsLast}
 use Rattle.po_model.specs.Machines.{IsMachine}
 use Rattle.po_model.specs.Pairs.{PlainPair}
-use Rattle.po_model.specs.Run.{Reply, IsReply, Run, starts, run, StartAlike, SameResult}
-use Rattle.po_model.specs.Scanned.{Ahead, Tells, IsSlowed}
-use Rattle.po_model.specs.UnitCodes.{IsStraight}
-use Rattle.po_slow.specs.Passes.{IsFormedCode, PassesKeepRuns}
+use Rattle.po_model.specs.Run.{Reply, IsReply, Run, starts, run, AlikeAtStart, SameResult}
+use Rattle.po_model.specs.Scanned.{Ahead, Tells, Answers, IsScanned, AreSafe}
+use Rattle.po_model.specs.UnitCodes.{IsFormedCode}
+use Rattle.po_slow.specs.Passes.{PassesKeepRuns}
 use Rattle.po_slow.proofs.Passes.{Told, Laws, by_passes, label_of}
 use Rattle.po_slow.proofs.Onto.{onto_reverse}
 use Rattle.po_slow.proofs.Blockwise.{all_blocks, same_length}
 use Rattle.po_slow.proofs.LivenessPass.{Standing}
 use Rattle.po_slow.proofs.LivenessCode.{MakesNothingLive, liveness_laws}
 use Rattle.po_slow.proofs.RunsRead.{alike_self}
-use Rattle.po_slow.proofs.RunsReplace.{AreFormed, Replaces, doing}
+use Rattle.po_slow.proofs.RunsReplace.{AreFormed, Replaces, doing, doing_fits}
 use Rattle.po_slow.proofs.RunsWithin.{OutOf, Within, within_start, within_taken, within_dropped, within_gone, within_one}
 use Rattle.po_slow.proofs.RunsLeave.{BothStand}
 use Rattle.po_slow.proofs.Blockwise.{each_block}
-use Rattle.po_slow.proofs.RunsBlocks.{RunsAs, runs_join, both_less, blocks_stand}
-use Rattle.po_slow.proofs.RunsStart.{starts_together}
+use Rattle.po_slow.proofs.RunsBlocks.{RunsAs, runs_join, both_less, both_join, blocks_stand}
+use Rattle.po_slow.proofs.RunsStart.{starts_together, start_together}
+use Rattle.po_term.specs.Moves.{PlainInstr}
 
 -- The blocks of a code in form
 
@@ -88,6 +89,7 @@ module _ (m : Machine) (allowed : IsMachine m) where
   runs_laws = record {
     joins = runs_join;
     start = λ code live before tells b l. (within_start code live tells b (formed_at code before b) (ends_at code before b), shrinking.start code live before tells b l);
+    formed = λ code live before tells b d done x xs h. shrinking.formed code live before tells b d done x xs h.1;
     dropped = λ code live before tells b done x xs h dead. (within_dropped code b done x xs h.0 dead, shrinking.dropped code live before tells b done x xs h.1 dead);
     taken = λ code live before tells b done x xs h. (within_taken code b done x xs h.0, shrinking.taken code live before tells b done x xs h.1);
     gone = λ code live before tells b d done x xs h e. (within_gone m code b d done x xs h.0 e, shrinking.gone code live before tells b d done x xs h.1 e);
@@ -97,9 +99,9 @@ module _ (m : Machine) (allowed : IsMachine m) where
 
   -- All passes
 
-  same_result : (slowed : List PlainBlock) (o p : Option Run) → BothStand slowed o p → SameResult slowed (λ r. r) o p
-  same_result slowed None None t = tt
-  same_result slowed (Some x) (Some y) t = record {
+  same_result : (scanned : List PlainBlock) (o p : Option Run) → BothStand scanned o p → SameResult scanned (λ r. r) o p
+  same_result scanned None None t = tt
+  same_result scanned (Some x) (Some y) t = record {
     stop = t.stop;
     calls = t.calls;
     replies = t.replies;
@@ -108,14 +110,29 @@ module _ (m : Machine) (allowed : IsMachine m) where
     places = t.agree.registers;
     compared = t.agree.compared;
   }
-  same_result slowed None (Some y) t = absurd t
-  same_result slowed (Some x) None t = absurd t
+  same_result scanned None (Some y) t = absurd t
+  same_result scanned (Some x) None t = absurd t
 
-  slowed_runs : (code slowed : List PlainBlock) (pairs : List PlainPair) → IsFormedCode code → IsSlowed m code pairs slowed → IsStraight code
-      → (n : ℕ) (s t : State) (replies : List Reply) → StartAlike code s t → All IsReply replies → SameResult slowed (λ r. r) (run code n (starts s replies)) (run slowed n (starts t replies))
-  slowed_runs code slowed pairs before is straight n s t replies a h =
-      let alike = (by_passes runs_laws code slowed pairs before is).0 in
-      same_result slowed (run code n (starts s replies)) (run slowed n (starts t replies)) (alike.runs n (starts s replies) (starts t replies) (starts_together code straight s t replies a h))
+  -- from states that agree on what is live at its start, a code runs alike
+  runs_alike : (code : List PlainBlock) → IsFormedCode code → (n : ℕ) (s t : State) (replies : List Reply) → AlikeAtStart code (λ r. r) s t
+      → All IsReply replies → BothStand code (run code n (starts s replies)) (run code n (starts t replies))
+  runs_alike code formed n s t replies a h =
+      blocks_stand code code refl (formed_at code formed) (ends_at code formed)
+      (λ b u fits. alike_self (OutOf code b) (doing (instrs_at code b) u) (doing_fits (instrs_at code b) u (formed_at code formed b) fits))
+      n (starts s replies) (starts t replies) (starts_together code s t replies a h)
+
+  -- the code before the passes and the code after them from one state, and then the latter from both
+  scanned_runs : (answer : Answers) → AreSafe m answer → (code scanned : List PlainBlock) (pairs : List PlainPair)
+      → IsFormedCode code → IsScanned answer code pairs scanned
+      → (n : ℕ) (s t : State) (replies : List Reply) → AlikeAtStart scanned (λ r. r) s t → All IsReply replies
+      → SameResult scanned (λ r. r) (run code n (starts s replies)) (run scanned n (starts t replies))
+  scanned_runs answer safe code scanned pairs before is n s t replies a h =
+      let made = by_passes runs_laws answer safe code scanned pairs before is in
+      same_result scanned (run code n (starts s replies)) (run scanned n (starts t replies))
+      (both_join scanned (run code n (starts s replies)) (run scanned n (starts s replies)) (run scanned n (starts t replies))
+      (made.0.runs n (starts s replies) (starts s replies) (start_together code s replies a.first h))
+      (runs_alike scanned made.1 n s t replies a h))
 
 pub passes_keep_runs : PassesKeepRuns
-passes_keep_runs m code slowed pairs allowed before is straight n s t replies a h = slowed_runs m allowed code slowed pairs before is straight n s t replies a h
+passes_keep_runs m answer code scanned pairs allowed safe before is n s t replies a h =
+    scanned_runs m allowed answer safe code scanned pairs before is n s t replies a h

@@ -10,16 +10,15 @@ use Rattle.po_term.specs.declared.term.Sym.{Sym}
 use Rattle.po_term.specs.declared.term.Label.{Label}
 use Rattle.po_term.specs.Tree.{Tree, Const, Leaf, Read, Unary, Binary}
 use Rattle.po_term.specs.Terms.{Place, InReg, AtSym, State, IsState, value}
-use Rattle.po_term.specs.Moves.{Ending, GoTo, IfCc, IfTwo, CallOf, Return, SetTo, CcTo, StoreTo, Ends}
-use Rattle.po_term.specs.Form.{PlainMove, WellFormed}
+use Rattle.po_term.specs.Moves.{Ending, GoTo, IfCc, IfTwo, CallOf, Return, SetTo, CcTo, StoreTo, Ends, PlainMove, PlainInstr}
+use Rattle.po_term.specs.Form.{WellFormed}
 use Rattle.po_term.specs.Simplified.{reg_eq, same_register}
 use Rattle.po_term.specs.Actions.{MovesHaveWords}
 use Rattle.po_simplify.proofs.Worths.{value_fits}
 use Rattle.po_model.specs.declared.var.Var.{Var}
 use Rattle.po_model.specs.declared.var.Var.TheVariants.{Reg, Cc}
-use Rattle.po_model.specs.Blocks.{PlainInstr}
-use Rattle.po_model.specs.Parts.{plainly, right_at, cc_of, store_of, ending_of}
-use Rattle.po_model.specs.Effect.{Control, Next, Jump, Called, Returned, Done, new_word, new_memory, new_cc, after, branch, by_cc, arguments, goes, effect}
+use Rattle.po_model.specs.Parts.{code_leaves, right_at, cc_of, store_of, ending_of}
+use Rattle.po_model.specs.Effect.{Control, Next, Jump, Called, Returned, Effected, new_word, new_memory, new_cc, after, branch, by_cc, arguments, goes, effect}
 use Rattle.po_model.specs.LiveAfter.{is_reg, is_cc, is_arg_of, term_reads, move_reads, move_sets, reads, sets}
 use Rattle.po_subst.proofs.Agreeing.{reg_self}
 use Rattle.po_subst.proofs.Alike.{IsSingle}
@@ -47,7 +46,7 @@ pub record Agree (L : Variables) (s t : State) : Type 0 where
   pub compared : L Cc → s.cc ≡ t.cc
 
 -- both without effect, or with the same control, and states that agree on what of these variables stays
-abbrev pub Alike : Variables → Option Done → Option Done → Type 0
+abbrev pub Alike : Variables → Option Effected → Option Effected → Type 0
 Alike L None None = ⊤
 Alike L (Some d) (Some e) = (d.to ≡ e.to) × Agree (Passing d.to L) d.state e.state
 Alike L None (Some e) = ⊥
@@ -102,13 +101,13 @@ passing_in (Jump l) L v p = p
 passing_in (Called f ws) L v p = p.1
 passing_in (Returned w) L v p = p
 
-pub alike_less : (L M : Variables) → ((v : Var) → M v → L v) → (o p : Option Done) → Alike L o p → Alike M o p
+pub alike_less : (L M : Variables) → ((v : Var) → M v → L v) → (o p : Option Effected) → Alike L o p → Alike M o p
 alike_less L M h None None a = tt
 alike_less L M h (Some d) (Some e) a = (a.0, agree_less (Passing d.to L) (Passing d.to M) d.state e.state (passing_less d.to L M h) a.1)
 alike_less L M h None (Some e) a = absurd a
 alike_less L M h (Some d) None a = absurd a
 
-pub alike_joins : (L : Variables) (x y z : Option Done) → Alike L x y → Alike L y z → Alike L x z
+pub alike_joins : (L : Variables) (x y z : Option Effected) → Alike L x y → Alike L y z → Alike L x z
 alike_joins L None None z h k = k
 alike_joins L (Some d) (Some e) (Some f) h k = (h.0 ∙ k.0, agree_joins (Passing d.to L) d.state e.state f.state h.1 (subst (λ (c : Control). Agree (Passing c L) e.state f.state) (sym h.0) k.1))
 alike_joins L (Some d) (Some e) None h k = absurd k
@@ -116,11 +115,11 @@ alike_joins L None (Some e) z h k = absurd h
 alike_joins L (Some d) None z h k = absurd h
 
 -- the state that is left, where one is, is one of words
-abbrev pub LeavesWords : Option Done → Type 0
+abbrev pub LeavesWords : Option Effected → Type 0
 LeavesWords None = ⊤
 LeavesWords (Some d) = IsState d.state
 
-pub alike_self : (L : Variables) (o : Option Done) → LeavesWords o → Alike L o o
+pub alike_self : (L : Variables) (o : Option Effected) → LeavesWords o → Alike L o o
 alike_self L None h = tt
 alike_self L (Some d) h = (refl, agree_self (Passing d.to L) d.state h)
 
@@ -131,11 +130,11 @@ if_fits true v w h k = h
 if_fits false v w h k = k
 
 module _ (s : State) (fits : IsState s) where
-  place_fits : (p : Place) (ms : PlainInstr) → MovesHaveWords ms → new_word s (right_at plainly p ms) (s.place p) < 2 ^ 32
+  place_fits : (p : Place) (ms : PlainInstr) → MovesHaveWords ms → new_word s (right_at code_leaves p ms) (s.place p) < 2 ^ 32
   place_fits p [] h = fits.places p
   place_fits p (SetTo r t ∷ ms) h = go (same_register p (InReg r)) (place_fits p ms h.1)
     where
-      go : (b : Bool) → new_word s (right_at plainly p ms) (s.place p) < 2 ^ 32 → new_word s (if b then Some t else right_at plainly p ms) (s.place p) < 2 ^ 32
+      go : (b : Bool) → new_word s (right_at code_leaves p ms) (s.place p) < 2 ^ 32 → new_word s (if b then Some t else right_at code_leaves p ms) (s.place p) < 2 ^ 32
       go true ih = value_fits s fits t h.0
       go false ih = ih
   place_fits p (CcTo t u ∷ ms) h = place_fits p ms h.1
@@ -192,13 +191,13 @@ module _ (s t : State) (memory : (a : ℕ) → s.memory a ≡ t.memory a) (symbo
   first_same m ms h = same_left (move_reads m) (reads ms) h
 
   -- a place is set alike, or is as it was
-  place_same : (p : Place) (ms : PlainInstr) → SameWhere (reads ms) → (right_at plainly p ms ≡ None → s.place p ≡ t.place p) → new_word s (right_at plainly p ms) (s.place p) ≡ new_word t (right_at plainly p ms) (t.place p)
+  place_same : (p : Place) (ms : PlainInstr) → SameWhere (reads ms) → (right_at code_leaves p ms ≡ None → s.place p ≡ t.place p) → new_word s (right_at code_leaves p ms) (s.place p) ≡ new_word t (right_at code_leaves p ms) (t.place p)
   place_same p [] h k = k refl
   place_same p (SetTo r x ∷ ms) h k = go (same_register p (InReg r)) k (place_same p ms (rest_same (SetTo r x) ms h))
     where
-      go : (b : Bool) → ((if b then Some x else right_at plainly p ms) ≡ None → s.place p ≡ t.place p)
-          → ((right_at plainly p ms ≡ None → s.place p ≡ t.place p) → new_word s (right_at plainly p ms) (s.place p) ≡ new_word t (right_at plainly p ms) (t.place p))
-          → new_word s (if b then Some x else right_at plainly p ms) (s.place p) ≡ new_word t (if b then Some x else right_at plainly p ms) (t.place p)
+      go : (b : Bool) → ((if b then Some x else right_at code_leaves p ms) ≡ None → s.place p ≡ t.place p)
+          → ((right_at code_leaves p ms ≡ None → s.place p ≡ t.place p) → new_word s (right_at code_leaves p ms) (s.place p) ≡ new_word t (right_at code_leaves p ms) (t.place p))
+          → new_word s (if b then Some x else right_at code_leaves p ms) (s.place p) ≡ new_word t (if b then Some x else right_at code_leaves p ms) (t.place p)
       go true k ih = value_same x (first_same (SetTo r x) ms h)
       go false k ih = ih k
   place_same p (CcTo x y ∷ ms) h k = place_same p ms (rest_same (CcTo x y) ms h) k
@@ -275,11 +274,11 @@ reg_swap Rv Rv = refl
 reg_swap (Arg m) (Arg n) = grind arith
 reg_swap q r = refl
 
-register_unset : (r : Register) (ms : PlainInstr) → IsSingle ms → right_at plainly (InReg r) ms ≡ None → ending_sets (ending_of ms) (Reg r) ≡ false → sets ms (Reg r) ≡ false
+register_unset : (r : Register) (ms : PlainInstr) → IsSingle ms → right_at code_leaves (InReg r) ms ≡ None → ending_sets (ending_of ms) (Reg r) ≡ false → sets ms (Reg r) ≡ false
 register_unset r [] h n e = refl
 register_unset r (SetTo q t ∷ ms) h n e = go (reg_eq r q) (reg_swap q r) n (register_unset r ms h.1)
   where
-    go : (b : Bool) → reg_eq q r ≡ b → (if b then Some t else right_at plainly (InReg r) ms) ≡ None → (right_at plainly (InReg r) ms ≡ None → ending_sets (ending_of ms) (Reg r) ≡ false → sets ms (Reg r) ≡ false) → (reg_eq q r || sets ms (Reg r)) ≡ false
+    go : (b : Bool) → reg_eq q r ≡ b → (if b then Some t else right_at code_leaves (InReg r) ms) ≡ None → (right_at code_leaves (InReg r) ms ≡ None → ending_sets (ending_of ms) (Reg r) ≡ false → sets ms (Reg r) ≡ false) → (reg_eq q r || sets ms (Reg r)) ≡ false
     go true i k ih = absurd (cc)
     go false i k ih = neither (reg_eq q r) (sets ms (Reg r)) i (ih k e)
 register_unset r (CcTo t u ∷ ms) h n e = register_unset r ms h.1 n e

@@ -5,16 +5,16 @@ use Rattle.std.specs.Prelude.{Option, Some, None, ⊤}
 use Rattle.std.specs.Option.{option_map}
 use Rattle.po_term.specs.Terms.{State, IsState}
 use Rattle.po_term.specs.Form.{WellFormed}
-use Rattle.po_model.specs.Blocks.{PlainInstr, EndsLast, ending_of}
-use Rattle.po_model.specs.Parts.{ending_of as end_of}
-use Rattle.po_model.specs.Effect.{Control, Next, Jump, Called, Returned, Done, after, goes, effect}
+use Rattle.po_model.specs.Blocks.{EndsLast}
+use Rattle.po_model.specs.Parts.{ending_of}
+use Rattle.po_model.specs.Effect.{Control, Next, Jump, Called, Returned, Effected, after, goes, effect}
 use Rattle.po_model.specs.Run.{then_on, and_on, in_turn}
 use Rattle.po_slow.proofs.Onto.{onto}
-use Rattle.po_slow.proofs.LivenessEndings.{same_ending}
 use Rattle.po_slow.proofs.RunsRead.{Variables, Passing, Agree, Alike, BeforeOne, instr_formed, LeavesWords, after_fits, after_agree, effect_agree, effect_fits}
+use Rattle.po_term.specs.Moves.{PlainInstr}
 
 -- what these instructions do, one after another
-abbrev pub doing : List PlainInstr → State → Option Done
+abbrev pub doing : List PlainInstr → State → Option Effected
 doing xs s = in_turn (map effect xs) s
 
 -- what is live before these instructions, by what is live behind them
@@ -37,8 +37,8 @@ Replaces L xs ys = (s : State) → IsState s → Alike L (doing xs s) (doing ys 
 
 -- An instruction without a transfer of control
 
-pub goes_next : (x : PlainInstr) → ending_of x ≡ None → (s : State) → goes s (end_of x) ≡ Some Next
-goes_next x n s = ap (λ e. goes s e) (sym (same_ending x) ∙ n)
+pub goes_next : (x : PlainInstr) → ending_of x ≡ None → (s : State) → goes s (ending_of x) ≡ Some Next
+goes_next x n s = ap (λ e. goes s e) n
 
 pub effect_next : (x : PlainInstr) → ending_of x ≡ None → (s : State) → effect x s ≡ Some (record { state = after s x; to = Next })
 effect_next x n s = ap (λ o. option_map (λ c. record { state = after s x; to = c }) o) (goes_next x n s)
@@ -49,7 +49,7 @@ doing_next x n xs s = ap (λ o. and_on (in_turn (map effect xs)) o) (effect_next
 -- Reading
 
 -- with nothing behind
-pub alone : (o : Option Done) → and_on (in_turn []) o ≡ o
+pub alone : (o : Option Effected) → and_on (in_turn []) o ≡ o
 alone None = refl
 alone (Some d) = go d.to refl
   where
@@ -71,26 +71,26 @@ pub doing_fits : (xs : List PlainInstr) (s : State) → AreFormed xs → IsState
 doing_fits [] s f fits = fits
 doing_fits (x ∷ xs) s f fits = go (effect x s) (effect_fits s fits x (instr_formed x f.0).0) (λ t h. doing_fits xs t f.1 h)
   where
-    step : (d : Done) (c : Control) → IsState d.state → LeavesWords (doing xs d.state) → LeavesWords (then_on (in_turn (map effect xs)) d c)
+    step : (d : Effected) (c : Control) → IsState d.state → LeavesWords (doing xs d.state) → LeavesWords (then_on (in_turn (map effect xs)) d c)
     step d Next g h = h
     step d (Jump l) g h = g
     step d (Called f ws) g h = g
     step d (Returned w) g h = g
 
-    go : (o : Option Done) → LeavesWords o → ((t : State) → IsState t → LeavesWords (doing xs t)) → LeavesWords (and_on (in_turn (map effect xs)) o)
+    go : (o : Option Effected) → LeavesWords o → ((t : State) → IsState t → LeavesWords (doing xs t)) → LeavesWords (and_on (in_turn (map effect xs)) o)
     go None g ih = tt
     go (Some d) g ih = step d d.to g (ih d.state g)
 
 -- Replacement
 
 -- control goes on, where something is behind
-abbrev pub GoesOnTo : List PlainInstr → Option Done → Type 0
+abbrev pub GoesOnTo : List PlainInstr → Option Effected → Type 0
 GoesOnTo [] o = ⊤
 GoesOnTo (r ∷ rs) None = ⊤
 GoesOnTo (r ∷ rs) (Some d) = d.to ≡ Next
 
 -- what is alike stays so with the rest of the block behind it
-pub behind : (L : Variables) (rest : List PlainInstr) → AreFormed rest → EndsLast rest → (o p : Option Done) → GoesOnTo rest o → Alike (Back rest L) o p → Alike L (and_on (in_turn (map effect rest)) o) (and_on (in_turn (map effect rest)) p)
+pub behind : (L : Variables) (rest : List PlainInstr) → AreFormed rest → EndsLast rest → (o p : Option Effected) → GoesOnTo rest o → Alike (Back rest L) o p → Alike L (and_on (in_turn (map effect rest)) o) (and_on (in_turn (map effect rest)) p)
 behind L [] f k o p n a = rw (alone o, alone p) a
 behind L (r ∷ rs) f k None None n a = tt
 behind L (r ∷ rs) f k (Some d) (Some e) n a =

@@ -8,27 +8,27 @@ use Rattle.po_term.specs.Form.{WellFormed}
 use Rattle.po_model.specs.declared.machine.Machine.{Machine}
 use Rattle.po_model.specs.declared.var.Var.{Var}
 use Rattle.po_model.specs.declared.var.Var.TheVariants.{Reg, Cc}
-use Rattle.po_model.specs.Blocks.{PlainInstr, PlainBlock, instrs_at, EndsLast, ending_of}
-use Rattle.po_model.specs.Parts.{cc_of, ending_of as end_of}
-use Rattle.po_model.specs.Effect.{Done, new_word, new_memory, new_cc, after, effect}
-use Rattle.po_model.specs.Keeps.{matters}
+use Rattle.po_model.specs.Blocks.{PlainBlock, instrs_at, EndsLast}
+use Rattle.po_model.specs.Parts.{cc_of, ending_of}
+use Rattle.po_model.specs.Effect.{Effected, new_word, new_memory, new_cc, after, effect}
+use Rattle.po_model.specs.Keeps.{matters, SameEnd, SameEffect, effect_of_both, then_effect}
 use Rattle.po_model.specs.LiveAfter.{sets, IsLive}
 use Rattle.po_model.specs.Machines.{IsMachine}
 use Rattle.po_model.specs.Pairs.{is_live_after, is_set_in}
-use Rattle.po_model.specs.Combined.{Gone, AsOne, combination}
-use Rattle.po_model.specs.Scanned.{Answer, Ahead, is_dead, pair_with, instrs_ahead, Tells}
+use Rattle.po_model.specs.Combined.{Gone, AsOne, combination, Answer}
+use Rattle.po_model.specs.Scanned.{Ahead, is_dead, pair_with, instrs_ahead, Tells}
 use Rattle.po_subst.proofs.Alike.{none_of}
 use Rattle.po_subst.proofs.Reading.{left_true}
-use Rattle.po_slow.specs.KeepsEffect.{SameEnd, SameEffect, effect_of_both, then_effect, KeepsEffect}
+use Rattle.po_slow.specs.KeepsEffect.{KeepsEffect}
 use Rattle.po_slow.proofs.Sound.{answer_keeps}
 use Rattle.po_slow.proofs.Onto.{onto}
 use Rattle.po_slow.proofs.Blockwise.{instrs_in, ahead_instrs}
 use Rattle.po_slow.proofs.PairWith.{pair_formed, pair_tells}
-use Rattle.po_slow.proofs.LivenessEndings.{same_ending}
 use Rattle.po_slow.proofs.LivenessFlow.{dead_ending}
 use Rattle.po_slow.proofs.Dead.{dead_store, dead_cc, dead_right, symbol_unset}
 use Rattle.po_slow.proofs.RunsRead.{Variables, Passing, Agree, Alike, LeavesWords, instr_formed, alike_joins, alike_self, passing_in, after_fits, effect_fits}
 use Rattle.po_slow.proofs.RunsReplace.{doing, Back, AreFormed, AreCalm, Replaces, effect_next, doing_next, doing_fits, behind, goes_on_to, ends_rest, ends_split, ends_onto, formed_split, formed_onto, onto_replaces}
+use Rattle.po_term.specs.Moves.{PlainInstr}
 
 -- what is live is told so
 abbrev pub IsToldBy : Variables → (Var → Bool) → Type 0
@@ -60,7 +60,11 @@ both_matter false false false h = refl
 register_matters : (d : PlainInstr) (x : Ahead) (r : Register) → x.live (Reg r) ≡ true → matters (is_live_after (pair_with d x)) d x.instr (InReg r) ≡ true
 register_matters d x r l = both_matter (is_live_after (pair_with d x) r) (is_set_in d r) (is_set_in x.instr r) (λ e. sym ((pair_tells d x).regs r e) ∙ l)
 
-end_alike : (L : Variables) (d : PlainInstr) (x : Ahead) → IsToldBy L x.live → (e f : Done) → IsState e.state → IsState f.state → SameEnd (pair_with d x) e f → Agree (Passing e.to L) e.state f.state
+-- what a pair does, and what a list in its place does, can't be told apart
+abbrev pub SameSeen : PlainInstr → Ahead → Option Effected → Option Effected → Type 0
+SameSeen d x = SameEffect (is_live_after (pair_with d x)) (x.live Cc) d x.instr
+
+end_alike : (L : Variables) (d : PlainInstr) (x : Ahead) → IsToldBy L x.live → (e f : Effected) → IsState e.state → IsState f.state → SameEnd (is_live_after (pair_with d x)) (x.live Cc) d x.instr e f → Agree (Passing e.to L) e.state f.state
 end_alike L d x told e f g h same = record {
   first = g;
   second = h;
@@ -70,7 +74,7 @@ end_alike L d x told e f g h same = record {
   compared = λ p. same.compared (left_true (x.live Cc) (not (is_some (cc_of d)) && not (is_some (cc_of x.instr))) (told Cc (passing_in e.to L Cc p)));
 }
 
-pair_alike : (L : Variables) (d : PlainInstr) (x : Ahead) → IsToldBy L x.live → (o p : Option Done) → LeavesWords o → LeavesWords p → SameEffect (pair_with d x) o p → Alike L o p
+pair_alike : (L : Variables) (d : PlainInstr) (x : Ahead) → IsToldBy L x.live → (o p : Option Effected) → LeavesWords o → LeavesWords p → SameSeen d x o p → Alike L o p
 pair_alike L d x told None None g h same = tt
 pair_alike L d x told (Some e) (Some f) g h same = (same.control, end_alike L d x told e f g h same)
 pair_alike L d x told None (Some f) g h same = absurd same
@@ -84,14 +88,14 @@ both_next d x n s = ap (λ o. then_effect x o) (effect_next d n s)
 pair_replaces : (L : Variables) (d : PlainInstr) (x : Ahead) (j : PlainInstr) (rest : List PlainInstr)
     → WellFormed d → WellFormed x.instr → ((s : State) → IsState s → LeavesWords (effect j s)) → AreFormed rest
     → ending_of d ≡ None → EndsLast (x.instr ∷ rest) → IsToldBy (Back rest L) x.live
-    → ((s : State) → IsState s → SameEffect (pair_with d x) (effect_of_both d x.instr s) (effect j s))
+    → ((s : State) → IsState s → SameSeen d x (effect_of_both d x.instr s) (effect j s))
     → Replaces L (d ∷ x.instr ∷ rest) (j ∷ rest)
 pair_replaces L d x j rest f g leaves h n k told same s fits =
     let middle = after_fits s fits d (instr_formed d f).0 in
     rw (doing_next d n (x.instr ∷ rest) s)
     (behind L rest h (ends_rest x.instr rest k) (effect x.instr (after s d)) (effect j s) (goes_on_to x.instr rest k (after s d))
     (pair_alike (Back rest L) d x told (effect x.instr (after s d)) (effect j s) (effect_fits (after s d) middle x.instr (instr_formed x.instr g).0) (leaves s fits)
-    (subst (λ (o : Option Done). SameEffect (pair_with d x) o (effect j s)) (both_next d x.instr n s) (same s fits))))
+    (subst (λ (o : Option Effected). SameSeen d x o (effect j s)) (both_next d x.instr n s) (same s fits))))
 
 -- Where the scan of a block stands
 
@@ -167,9 +171,9 @@ within_dropped code b done x xs w h =
           (λ s fits. behind (OutOf code b) rest f.1.1 l (effect x.instr s) (effect [] s) (goes_on_to x.instr rest k.1 s) (dead_alike (Back rest (OutOf code b)) x.live x.instr w.told.0 f.1.0 h s fits));
     }
 
-still_ends : (x y : PlainInstr) (xs : List PlainInstr) → (is_some (end_of x) ≡ false → is_some (end_of y) ≡ false) → EndsLast (x ∷ xs) → EndsLast (y ∷ xs)
+still_ends : (x y : PlainInstr) (xs : List PlainInstr) → (is_some (ending_of x) ≡ false → is_some (ending_of y) ≡ false) → EndsLast (x ∷ xs) → EndsLast (y ∷ xs)
 still_ends x y [] h k = tt
-still_ends x y (z ∷ zs) h k = (same_ending y ∙ none_of (end_of y) (h (ap is_some (sym (same_ending x) ∙ k.0))), k.1)
+still_ends x y (z ∷ zs) h k = (none_of (ending_of y) (h (ap is_some k.0)), k.1)
 
 module _ (m : Machine) (code : List PlainBlock) (b : ℕ) (d : PlainInstr) (done : List PlainInstr) (x : Ahead) (xs : List Ahead) (w : Within code b (d ∷ done) (x ∷ xs)) where
   abbrev rest : List PlainInstr
@@ -185,7 +189,7 @@ module _ (m : Machine) (code : List PlainBlock) (b : ℕ) (d : PlainInstr) (done
   keeps answer e = answer_keeps m (pair_with d x) answer (sym e) (pair_formed d x forms.1.0 forms.1.1.0)
 
   -- what stands in the place of the pair
-  instead : (j : PlainInstr) → ((s : State) → IsState s → LeavesWords (effect j s)) → ((s : State) → IsState s → SameEffect (pair_with d x) (effect_of_both d x.instr s) (effect j s)) → Replaces (OutOf code b) (instrs_at code b) (onto done (j ∷ rest))
+  instead : (j : PlainInstr) → ((s : State) → IsState s → LeavesWords (effect j s)) → ((s : State) → IsState s → SameSeen d x (effect_of_both d x.instr s) (effect j s)) → Replaces (OutOf code b) (instrs_at code b) (onto done (j ∷ rest))
   instead j leaves same =
       replaced code b done (d ∷ x.instr ∷ rest) (j ∷ rest) forms.0 ending.0 w.same
       (pair_replaces (OutOf code b) d x j rest forms.1.0 forms.1.1.0 leaves forms.1.1.1 ending.1.0 ending.1.1 w.told.0 same)

@@ -2,46 +2,44 @@
 use Rattle.std.proofs.Common.{◌≡◌, ℕ, zero, suc, Bool, true, false, List, [], ◌∷◌, ◌++◌, get_or, Option, Some, None, refl, sym, ap, ◌∙◌, subst, arith}
 use Rattle.std.specs.Prelude.{All, Contains, IsTrue, IsSome, is_some, not, ◌||◌, ◌&&◌}
 use Rattle.std.specs.List.{list_any}
-use Rattle.std.specs.Option.{option_map}
 use Rattle.std.proofs.lemmas.Bool.{false≢true, true≢false}
 use Rattle.po_term.specs.declared.term.Reg.{Reg as Register}
 use Rattle.po_term.specs.declared.term.Sym.{Sym}
 use Rattle.po_term.specs.Tree.{Tree}
 use Rattle.po_term.specs.Terms.{Place, InReg, State, IsState}
-use Rattle.po_term.specs.Moves.{GoTo, IfCc, IfTwo, CallOf, Return, SetTo, CcTo, StoreTo, Ends}
-use Rattle.po_term.specs.Form.{PlainMove, WellFormed, WellFormedMove, WellFormedTerm}
+use Rattle.po_term.specs.Moves.{GoTo, IfCc, IfTwo, CallOf, Return, SetTo, CcTo, StoreTo, Ends, PlainMove, PlainInstr}
+use Rattle.po_term.specs.Form.{WellFormed, WellFormedMove, WellFormedTerm}
 use Rattle.po_term.specs.Kinds.{words}
 use Rattle.po_term.specs.Simplified.{reg_eq}
 use Rattle.po_model.specs.declared.machine.Machine.{Machine}
 use Rattle.po_model.specs.declared.var.Var.{Var}
 use Rattle.po_model.specs.declared.var.Var.TheVariants.{Reg, Cc}
-use Rattle.po_model.specs.Blocks.{PlainInstr}
-use Rattle.po_model.specs.Parts.{plainly, right_at, ending_of}
-use Rattle.po_model.specs.Effect.{Control, after, goes, effect}
-use Rattle.po_model.specs.Keeps.{Keeps}
+use Rattle.po_model.specs.Parts.{code_leaves, right_at, ending_of}
+use Rattle.po_model.specs.Effect.{effect}
+use Rattle.po_model.specs.Keeps.{SameEffect, effect_of_both}
 use Rattle.po_model.specs.LiveAfter.{reads, sets}
 use Rattle.po_model.specs.Joined.{Joint, NotJoined, NothingLeft, is_control, is_away, joined}
 use Rattle.po_model.specs.Joined as joint
-use Rattle.po_model.specs.Fit.{Found, places, fit}
+use Rattle.po_model.specs.Fit.{Found, fit}
 use Rattle.po_model.specs.Machines.{IsMachine}
 use Rattle.po_model.specs.Pairs.{PlainPair, is_live_after, is_set_in, WellFormedPair}
-use Rattle.po_model.specs.Combined.{if_fit, recognised, combination}
+use Rattle.po_model.specs.Combined.{if_fit, recognised, combination, Answer}
 use Rattle.po_recog.specs.Limits.{IsSmall, HasSmallTerms, IsWithinLimits}
 use Rattle.po_recog.proofs.Limits.{within_limits}
 use Rattle.po_subst.specs.KeepsEffect.{OfList, lives, live_before, TermInRange, MoveInRange, HasForm, labels_in, syms_in}
 use Rattle.po_subst.proofs.Agreeing.{one_register}
 use Rattle.po_subst.proofs.Alike.{or_false}
 use Rattle.po_subst.proofs.Joint.{joined_where}
-use Rattle.po_subst.proofs.Keeping.{zeros, zeros_fit, joined_keeps}
+use Rattle.po_subst.proofs.Keeping.{joined_keeps}
 use Rattle.po_subst.proofs.Reading.{right_unset, stays_here, joined_makes_nothing}
 use Rattle.po_subst.proofs.Forms.{joined_form}
-use Rattle.po_slow.specs.KeepsEffect.{Answer, InPlace, SameEffect, effect_of_both, IsLiveAfter, IsFormed, KeepsEffect}
+use Rattle.po_slow.specs.KeepsEffect.{InPlace, IsLiveAfter, IsFormed, KeepsEffect}
 
 abbrev Joining : Type 0
 Joining = Joint ℕ Place Register Sym
 
 -- what holds of the joint list holds of it where it is recognised
-pub in_place : (m : Machine) (cc_live : Bool) (Q : PlainInstr → Type 0) (x : Joining) → OfList x Q → InPlace (recognised words places m cc_live x).got Q
+pub in_place : (m : Machine) (cc_live : Bool) (Q : PlainInstr → Type 0) (x : Joining) → OfList x Q → InPlace (recognised words code_leaves m cc_live x).got Q
 in_place m cc_live Q NotJoined h = tt
 in_place m cc_live Q NothingLeft h = h
 in_place m cc_live Q (joint.AsOne j) h = go (fit m cc_live j)
@@ -55,23 +53,6 @@ from_both : (P Q R : PlainInstr → Type 0) (x : Joining) → ((j : PlainInstr) 
 from_both P Q R NotJoined f h i = tt
 from_both P Q R NothingLeft f h i = f [] h i
 from_both P Q R (joint.AsOne j) f h i = f j h i
-
--- an instruction without a transfer of control has no ending
-no_ending : (ms : PlainInstr) → list_any is_control ms ≡ false → ending_of ms ≡ None
-no_ending [] h = refl
-no_ending (SetTo r t ∷ ms) h = no_ending ms h
-no_ending (CcTo t u ∷ ms) h = no_ending ms h
-no_ending (StoreTo t u ∷ ms) h = no_ending ms h
-no_ending (Ends e ∷ ms) h = absurd (true≢false h)
-
--- The effect
-
-same_effect : (p : PlainPair) (j : PlainInstr) (s : State) → ending_of p.a ≡ None → Keeps (is_live_after p) p.cc p.a p.b j s → SameEffect p (effect_of_both p.a p.b s) (effect j s)
-same_effect p j s none k = rw (none, k.control) (go (goes s (ending_of j)))
-  where
-    go : (g : Option Control) → SameEffect p (option_map (λ c. record { state = after (after s p.a) p.b; to = c }) g) (option_map (λ c. record { state = after s j; to = c }) g)
-    go None = tt
-    go (Some c) = record { control = refl; memory = k.memory; places = k.places; compared = k.compared }
 
 -- The form
 
@@ -96,7 +77,7 @@ formed_list a b j h w = record {
   each = λ k d l. formed_move (get_or j k d) (h.each k d l) (w.terms k d l);
 }
 
-formed_answer : (m : Machine) (cc_live : Bool) (a b : PlainInstr) → IsMachine m → (x : Joining) → OfList x (λ j. HasForm a b j) → IsFormed (recognised words places m cc_live x).got
+formed_answer : (m : Machine) (cc_live : Bool) (a b : PlainInstr) → IsMachine m → (x : Joining) → OfList x (λ j. HasForm a b j) → IsFormed (recognised words code_leaves m cc_live x).got
 formed_answer m cc_live a b allowed NotJoined h = tt
 formed_answer m cc_live a b allowed NothingLeft h = tt
 formed_answer m cc_live a b allowed (joint.AsOne j) h = go (fit m cc_live j) (λ there. formed_list a b j h (within_limits m cc_live j allowed there))
@@ -139,13 +120,16 @@ module _ (m : Machine) (p : PlainPair) (h : WellFormedPair p) where
   own v = lives (is_live_after p) p.cc v
 
   abbrev come_to : Joining
-  come_to = (joined words plainly (is_live_after p) p.cc p.a p.b).got
+  come_to = (joined words code_leaves (is_live_after p) p.cc p.a p.b).got
 
   -- the facts of the joint list
   stays : OfList come_to (λ j. (list_any is_control p.a ≡ false) × (list_any is_away p.b ≡ false))
   stays = joined_where (is_live_after p) p.cc p.a p.b (λ j. (list_any is_control p.a ≡ false) × (list_any is_away p.b ≡ false)) (λ f j. (j.no_control, j.no_away))
 
-  kept : (s : State) → IsState s → OfList come_to (λ j. Keeps (is_live_after p) p.cc p.a p.b j s)
+  abbrev SameSeen : State → PlainInstr → Type 0
+  SameSeen s j = SameEffect (is_live_after p) p.cc p.a p.b (effect_of_both p.a p.b s) (effect j s)
+
+  kept : (s : State) → IsState s → OfList come_to (SameSeen s)
   kept s fits = joined_keeps (is_live_after p) p.cc p.a p.b h.first h.second s fits
 
   form : OfList come_to (λ j. HasForm p.a p.b j)
@@ -165,21 +149,17 @@ module _ (m : Machine) (p : PlainPair) (h : WellFormedPair p) where
       go false e =
           let two = or_false (is_set_in p.a r) (is_set_in p.b r) e in
           unset_here p.a p.b j own live (Reg r)
-          (right_unset r p.a (stays_here p.a n.0) (not_there (right_at plainly (InReg r) p.a) two.0))
-          (right_unset r p.b n.1 (not_there (right_at plainly (InReg r) p.b) two.1))
+          (right_unset r p.a (stays_here p.a n.0) (not_there (right_at code_leaves (InReg r) p.a) two.0))
+          (right_unset r p.b n.1 (not_there (right_at code_leaves (InReg r) p.b) two.1))
           (named (λ q. is_set_in p.a q || is_set_in p.b q) p.regs h.set r e) law
 
   pub keeps_effect : KeepsEffect m p (combination m p)
   keeps_effect = record {
-    keeps = λ s fits. in_place m p.cc (λ j. SameEffect p (effect_of_both p.a p.b s) (effect j s)) come_to
-        (from_both (λ j. (list_any is_control p.a ≡ false) × (list_any is_away p.b ≡ false)) (λ j. Keeps (is_live_after p) p.cc p.a p.b j s) (λ j. SameEffect p (effect_of_both p.a p.b s) (effect j s)) come_to
-        (λ j n k. same_effect p j s (no_ending p.a n.0) k) stays (kept s fits));
+    keeps = λ s fits. in_place m p.cc (SameSeen s) come_to (kept s fits);
     formed = λ allowed. formed_answer m p.cc p.a p.b allowed come_to form;
     labels = of_form (λ j. All (Contains (labels_in p.a ++ labels_in p.b)) (labels_in j)) (λ j f. f.labels);
     symbols = of_form (λ j. All (Contains (syms_in p.a ++ syms_in p.b)) (syms_in j)) (λ j f. f.symbols);
-    control = in_place m p.cc (λ j. is_some (ending_of p.b) ≡ false → is_some (ending_of j) ≡ false) come_to
-        (from_both (λ j. Keeps (is_live_after p) p.cc p.a p.b j zeros) (λ j. Keeps (is_live_after p) p.cc p.a p.b j zeros) (λ j. is_some (ending_of p.b) ≡ false → is_some (ending_of j) ≡ false) come_to
-        (λ j k i. k.stays) (kept zeros zeros_fit) (kept zeros zeros_fit));
+    control = of_form (λ j. is_some (ending_of p.b) ≡ false → is_some (ending_of j) ≡ false) (λ j f. f.control);
     targets = of_form (λ j. (v : Var) → sets j v ≡ true → (sets p.a v || sets p.b v) ≡ true) (λ j f. f.targets);
     nothing_live = λ live l v. in_place m p.cc (λ j. live_before j live v ≡ true → live_before p.a (live_before p.b live) v ≡ true) come_to
         (from_both (λ j. (list_any is_control p.a ≡ false) × (list_any is_away p.b ≡ false)) (λ j. live_before j own v ≡ true → live_before p.a (live_before p.b own) v ≡ true)

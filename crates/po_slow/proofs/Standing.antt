@@ -3,9 +3,8 @@ use Rattle.std.proofs.Common.{◌≡◌, ℕ, zero, suc, ◌+◌, ◌-◌, ◌<�
 use Rattle.std.proofs.lemmas.List.{length-set, length-map, map-set, set-set, set_comm, set-get_or, get_or-set_other, take-set-le, take_more_set, take_more, drop-set-lt, drop-set, drop_more, get_or-map, get_or_default, reverse-append}
 use Rattle.po_term.specs.declared.term.Reg.{Reg as Register}
 use Rattle.po_term.specs.declared.transfer.Instr.{Instr}
-use Rattle.po_term.specs.Moves.{instr_of, instrs_of}
+use Rattle.po_term.specs.Moves.{instr_of, instrs_of, PlainInstr}
 use Rattle.po_model.specs.declared.var.Var.{Var}
-use Rattle.po_model.specs.Blocks.{PlainInstr}
 use Rattle.po_model.specs.declared.pair.Live.{Live}
 use Rattle.po_model.specs.LiveSets.{holds, holds_at}
 use Rattle.po_model.specs.declared.pair.Pair.{Pair}

@@ -10,17 +10,16 @@ use Rattle.po_term.specs.declared.term.Reg.TheVariants.{Virt}
 use Rattle.po_model.specs.declared.machine.Machine.{Machine}
 use Rattle.po_model.specs.declared.var.Var.{Var}
 use Rattle.po_model.specs.declared.var.Var.TheVariants.{Cc}
-use Rattle.po_model.specs.Blocks.{PlainInstr, PlainBlock, instrs_at}
+use Rattle.po_model.specs.Blocks.{PlainBlock, instrs_at}
 use Rattle.po_model.specs.LiveAfter.{reads, sets}
 use Rattle.po_model.specs.Machines.{IsMachine}
 use Rattle.po_model.specs.Pairs.{PlainPair, is_live_after, is_set_in}
 use Rattle.po_model.specs.Combined.{Gone, AsOne}
-use Rattle.po_model.specs.Scanned.{Ahead, is_dead, pair_with, instrs_ahead, Tells, IsSlowed}
-use Rattle.po_model.specs.UnitCodes.{IsStraight, written, all_written, ReadsBehind, flat}
+use Rattle.po_model.specs.Scanned.{Ahead, is_dead, pair_with, instrs_ahead, Tells, Answers, IsScanned, AreSafe}
+use Rattle.po_model.specs.UnitCodes.{IsStraight, written, all_written, ReadsBehind, flat, IsFormedCode}
 use Rattle.po_subst.specs.KeepsEffect.{live_before, lives}
 use Rattle.po_subst.proofs.Reading.{unset_right}
 use Rattle.po_slow.specs.KeepsEffect.{IsLiveAfter, KeepsEffect}
-use Rattle.po_slow.specs.Passes.{IsFormedCode}
 use Rattle.po_slow.proofs.Sound.{answer_keeps}
 use Rattle.po_slow.proofs.Passes.{Told, Laws, by_passes, label_of}
 use Rattle.po_slow.proofs.Onto.{onto, onto_reverse}
@@ -29,6 +28,7 @@ use Rattle.po_slow.proofs.Blockwise.{instrs_in, whole, ahead_instrs, block_at, a
 use Rattle.po_slow.proofs.Distinct.{IsDistinct, Within, nothing_in, distinct_nil, distinct_split, distinct_append, within_append, Parted, parted, distinct_replaced}
 use Rattle.po_slow.proofs.Virtuals.{virtual, written_if_set, set_if_written, written_once, dead_unset, read_in, read_live, behind_by, set_by, written_onto, behind_replaced}
 use Rattle.po_slow.proofs.Forms.{Formed, Stays, StaysAt, stays_pair, stays_at_start, kept_form, form_laws}
+use Rattle.po_term.specs.Moves.{PlainInstr}
 
 -- What stands in the place of a pair
 
@@ -302,6 +302,7 @@ module _ (m : Machine) (allowed : IsMachine m) where
   straight_laws = record {
     joins = λ a b c f g. tt;
     start = λ code live before tells b lt. start_once code live before b lt;
+    formed = λ code live before tells b d done x xs h. stays_pair code b done d x (instrs_in xs) h.stays;
     dropped = λ code live before tells b done x xs h dead. record {
       stays = laws_of_form.dropped code live before.formed tells b done x xs h.stays dead;
       once = dead_left code live b done tells x xs h.comes dead h.once;
@@ -321,5 +322,7 @@ module _ (m : Machine) (allowed : IsMachine m) where
     over = λ code live before tells next e h. (tt, kept_straight code live before next e h);
   }
 
-  pub keeps_straight : (code slowed : List PlainBlock) (pairs : List PlainPair) → IsFormedCode code → IsSlowed m code pairs slowed → IsStraight code → IsStraight slowed
-  keeps_straight code slowed pairs formed passes straight = (by_passes straight_laws code slowed pairs (record { formed = formed; straight = straight }) passes).1.straight
+  pub keeps_straight : (answer : Answers) → AreSafe m answer → (code scanned : List PlainBlock) (pairs : List PlainPair)
+      → IsFormedCode code → IsScanned answer code pairs scanned → IsStraight code → IsStraight scanned
+  keeps_straight answer safe code scanned pairs formed passes straight =
+      (by_passes straight_laws answer safe code scanned pairs (record { formed = formed; straight = straight }) passes).1.straight

@@ -9,14 +9,13 @@ use Rattle.po_term.specs.contracts.term.RegOrd.TheImpl.{cmp-value}
 use Rattle.po_term.specs.Tree.{Tree}
 use Rattle.po_term.specs.Terms.{Place, InReg}
 use Rattle.po_term.specs.Simplified.{reg_eq}
-use Rattle.po_term.specs.Form.{PlainMove, WellFormed}
+use Rattle.po_term.specs.Form.{WellFormed}
 use Rattle.po_term.specs.declared.term.Reg.{Reg as Register}
 use Rattle.po_term.specs.declared.transfer.Transfer.{Transfer}
-use Rattle.po_term.specs.Moves.{SetTo, CcTo, StoreTo, Ends, move_of, moves_of}
+use Rattle.po_term.specs.Moves.{SetTo, CcTo, StoreTo, Ends, move_of, moves_of, PlainMove, PlainInstr}
 use Rattle.po_model.specs.declared.var.Var.{Var}
-use Rattle.po_model.specs.Blocks.{PlainInstr}
 use Rattle.po_model.specs.declared.var.Var.TheVariants.{Reg}
-use Rattle.po_model.specs.Parts.{plainly, right_at}
+use Rattle.po_model.specs.Parts.{code_leaves, right_at}
 use Rattle.po_model.specs.Pairs.{WellFormedPair, is_set_in}
 use Rattle.po_model.specs.Scanned.{Ahead, put_live, pair_with}
 use Rattle.po_subst.proofs.Agreeing.{reg_self}
@@ -40,7 +39,7 @@ set_here r t ms = rw (reg_self r) refl
 set_later : (m : PlainMove) (ms : PlainInstr) (r : Register) → IsTrue (is_set_in ms r) → IsTrue (is_set_in (m ∷ ms) r)
 set_later (SetTo q t) ms r h = go (reg_eq r q)
   where
-    go : (same : Bool) → IsTrue (is_some (if same then Some t else right_at plainly (InReg r) ms))
+    go : (same : Bool) → IsTrue (is_some (if same then Some t else right_at code_leaves (InReg r) ms))
     go true = refl
     go false = h
 set_later (CcTo t u) ms r h = h

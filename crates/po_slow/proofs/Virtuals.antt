@@ -9,12 +9,12 @@ use mathlib.Core.Logic.{◌⊎◌, inl, inr}
 use Rattle.po_term.specs.declared.term.Reg.TheVariants.{Virt, Fp, Rv, Arg}
 use Rattle.po_term.specs.Tree.{Tree}
 use Rattle.po_term.specs.Terms.{Place}
-use Rattle.po_term.specs.Moves.{GoTo, IfCc, IfTwo, CallOf, Return, SetTo, CcTo, StoreTo, Ends}
+use Rattle.po_term.specs.Moves.{GoTo, IfCc, IfTwo, CallOf, Return, SetTo, CcTo, StoreTo, Ends, PlainInstr}
 use Rattle.po_term.specs.Form.{GoesBefore}
 use Rattle.po_term.proofs.FormLemmas.{pairs_more}
 use Rattle.po_model.specs.declared.var.Var.{Var}
 use Rattle.po_model.specs.declared.var.Var.TheVariants.{Reg}
-use Rattle.po_model.specs.Blocks.{PlainInstr, PlainBlock}
+use Rattle.po_model.specs.Blocks.{PlainBlock}
 use Rattle.po_model.specs.LiveAfter.{reads, sets, IsRead}
 use Rattle.po_model.specs.Scanned.{is_dead}
 use Rattle.po_model.specs.UnitCodes.{written, all_written, ReadsBehind}

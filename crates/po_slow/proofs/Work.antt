@@ -9,13 +9,13 @@ use Rattle.std.specs.Prelude.{if◌then◌else◌}
 use Rattle.std.proofs.lemmas.List.{length-reverse}
 use Rattle.std.proofs.lemmas.Nat.{mul-le, mul-add-lt}
 use Rattle.po_term.specs.declared.term.Label.{Label}
-use Rattle.po_model.specs.declared.machine.Machine.{Machine}
 use Rattle.po_model.specs.declared.var.Var.{Var}
-use Rattle.po_model.specs.Blocks.{PlainInstr, PlainBlock}
+use Rattle.po_model.specs.Blocks.{PlainBlock}
 use Rattle.po_model.specs.Pairs.{PlainPair}
-use Rattle.po_model.specs.Combined.{Kept, Gone, AsOne, combination}
-use Rattle.po_model.specs.Scanned.{Answer, Ahead, Stand, BlockAhead, InBlock, Scan, Within, Finished, ScanStep, Tried, Ended, is_dead, onward, ready, settled, pair_ready, after_try, instrs_ahead, blocks_ahead, enter, passed_with, AfterPass, AfterBlock, AfterEnd, Goes}
+use Rattle.po_model.specs.Combined.{Kept, Gone, AsOne, Answer}
+use Rattle.po_model.specs.Scanned.{Ahead, Stand, BlockAhead, InBlock, Scan, Within, Finished, ScanStep, Tried, Ended, is_dead, onward, ready, settled, pair_ready, after_try, instrs_ahead, blocks_ahead, enter, passed_with, AfterPass, AfterBlock, AfterEnd, Answers, Goes}
 use Rattle.po_slow.proofs.Keeping.{less_or_not}
+use Rattle.po_term.specs.Moves.{PlainInstr}
 
 -- how many instructions blocks have
 abbrev pub count : List PlainBlock → ℕ
@@ -200,7 +200,7 @@ ended_less (Within s) t (e, h) = go s.coming h
     go (b ∷ bs) i = subst (λ u. work u < work (Within (record { label = s.label; stand = s.stand; passed = s.passed; coming = b ∷ bs }))) (sym i) (next_less s.label s.stand.done s.stand.rest s.stand.changed s.passed b bs)
 ended_less (Finished code) t h = absurd h
 
--- each step leaves less work
-pub step_less : (m : Machine) (s t : Scan) (step : ScanStep) → Goes m s (step ∷ []) t → work t < work s
-step_less m s t (Tried p) (e, i) = subst (λ u. work u < work s) (sym i) (tried_less (combination m p) s (Some p) e (λ n. absurd (cc)))
-step_less m s t Ended (u, after, i) = subst (λ v. work v < work s) (sym i) (ended_less s u after)
+-- each step leaves less work, whatever becomes of the pairs
+pub step_less : (answer : Answers) (s t : Scan) (step : ScanStep) → Goes answer s (step ∷ []) t → work t < work s
+step_less answer s t (Tried p) (e, i) = subst (λ u. work u < work s) (sym i) (tried_less (answer p) s (Some p) e (λ n. absurd (cc)))
+step_less answer s t Ended (u, after, i) = subst (λ v. work v < work s) (sym i) (ended_less s u after)

@@ -4,16 +4,17 @@ use Rattle.std.specs.Global.{Vec}
 use Rattle.std.specs.Vec.{vec_len, with_items}
 use Rattle.std.proofs.lemmas.List.{length-set, length-map, map-set, take-set, drop-set, drop_more, with_items_is, get_or-map, take-map}
 use Rattle.po_term.specs.declared.transfer.Instr.{Instr}
-use Rattle.po_term.specs.Moves.{instr_of, instrs_of}
+use Rattle.po_term.specs.Moves.{instr_of, instrs_of, PlainInstr}
 use Rattle.po_model.specs.declared.code.Block.{Block}
 use Rattle.po_model.specs.declared.machine.Machine.{Machine}
 use Rattle.po_model.specs.declared.pair.Live.{Live}
 use Rattle.po_model.specs.declared.var.Var.{Var}
-use Rattle.po_model.specs.Blocks.{PlainInstr, PlainBlock, block_of, instrs_at}
+use Rattle.po_model.specs.Blocks.{PlainBlock, block_of, instrs_at}
 use Rattle.po_model.specs.LiveSets.{holds_at, lives_at}
-use Rattle.po_model.specs.Scanned.{Answer, Stand, Scan, Within, Finished, settled, after_try, ready, pair_ready, instrs_ahead, blocks_ahead}
+use Rattle.po_model.specs.Scanned.{Stand, Scan, Within, Finished, settled, after_try, ready, pair_ready, instrs_ahead, blocks_ahead}
 use Rattle.po_slow.specs.declared.block.Standing.{Standing}
-use Rattle.po_slow.specs.States.{stand_at, on, place_in, place_at, told, place_of, within, cut, IsAnswer, IsTriedIn, IsTried, IsPlaced}
+use Rattle.po_slow.specs.States.{stand_at, on, place_in, place_at, told, scan_by, within, cut, IsAnswer, IsTriedIn, IsTried, IsPlaced}
+use Rattle.po_model.specs.Combined.{Answer}
 
 -- the sets and the instructions of the b-th block
 pub lives_get : (lives : List (Vec Live)) (b : ℕ) (v : Vec Live) → b < length lives → lives_at lives b ≡ (get_or lives b v).items
@@ -38,11 +39,11 @@ module _ (v : Vec Block) (ws xs : List Block) (lives ls : List (Vec Live)) (n : 
   blocks_are : map block_of (with_items v ws).items ≡ map block_of ws
   blocks_are = code_with v ws (n ∙ ap length xs_are)
 
-  pub old_place : (b : ℕ) (at : Standing) → place_of (map block_of xs) ls b at ≡ place_of (map block_of v.items) lives b at
-  old_place b at = (λ i. place_of (map block_of (xs_are i)) (ls_are i) b at)
+  pub old_place : (b : ℕ) (at : Standing) → scan_by (map block_of xs) ls b at ≡ scan_by (map block_of v.items) lives b at
+  old_place b at = (λ i. scan_by (map block_of (xs_are i)) (ls_are i) b at)
 
-  pub new_place : (b : ℕ) (at : Standing) → place_of (map block_of (with_items v ws).items) lives b at ≡ place_of (map block_of ws) ls b at
-  new_place b at = (λ i. place_of (blocks_are i) (sym ls_are i) b at)
+  pub new_place : (b : ℕ) (at : Standing) → scan_by (map block_of (with_items v ws).items) lives b at ≡ scan_by (map block_of ws) ls b at
+  new_place b at = (λ i. scan_by (blocks_are i) (sym ls_are i) b at)
 
   pub new_placed : (b : ℕ) (at : Standing) → IsPlaced (map block_of ws) ls b at → IsPlaced (map block_of (with_items v ws).items) lives b at
   new_placed b at p = subst (λ code. IsPlaced code lives b at) (sym blocks_are) (subst (λ l. IsPlaced (map block_of ws) l b at) ls_are p)
@@ -102,7 +103,7 @@ module _ (blocks : List Block) (lives : List (Vec Live)) (b : ℕ) (r : Block) (
 
   pub place_written : (ws xs : List Instr) (ls : List Live) (at at' : Standing) (f : Stand → Stand) → b < length blocks → length ws ≡ length xs → xs ≡ here.instrs.items → ls ≡ (get_or lives b v).items → IsPlaced (map block_of blocks) lives b at
       → stand_at (instrs_of ws) (holds_at ls) at'.done at'.next at'.changed ≡ f (stand_at (instrs_of xs) (holds_at ls) at.done at.next at.changed)
-      → place_of (map block_of (written ws)) lives b at' ≡ within f (place_of (map block_of blocks) lives b at)
+      → scan_by (map block_of (written ws)) lives b at' ≡ within f (scan_by (map block_of blocks) lives b at)
   place_written ws xs ls at at' f h n x_is l_is p s =
       let live : ls ≡ lives_at lives b = l_is ∙ sym (lives_get lives b v (omega (arith, p.sets, length-map blocks block_of))) in
       let stands : stand_at (instrs_of ws) (told lives b) at'.done at'.next at'.changed ≡ f (stand_at (instrs_of here.instrs.items) (told lives b) at.done at.next at.changed)
@@ -110,7 +111,7 @@ module _ (blocks : List Block) (lives : List (Vec Live)) (b : ℕ) (r : Block) (
       let new : map block_of (written ws) ≡ set (map block_of blocks) b (record { label = here.label; instrs = instrs_of ws })
       = map-set block_of blocks b (record { label = here.label; instrs = with_items here.instrs ws }) ∙ ap (λ is. set (map block_of blocks) b (record { label = here.label; instrs = instrs_of is })) (items_written ws xs n x_is) in
       let old : block_of here ≡ get_or (map block_of blocks) b (block_of here) = sym (get_or-map block_of blocks b r (block_of here) h) in
-      ap (λ code. place_of code lives b at') new ∙ place_set (map block_of blocks) (told lives) b at.done at.next at'.done at'.next at.changed at'.changed (block_of here) (instrs_of ws) f (omega (arith, length-map blocks block_of)) old stands
+      ap (λ code. scan_by code lives b at') new ∙ place_set (map block_of blocks) (told lives) b at.done at.next at'.done at'.next at.changed at'.changed (block_of here) (instrs_of ws) f (omega (arith, length-map blocks block_of)) old stands
 
   pub placed_written : (ws xs : List Instr) (at at' : Standing) → b < length blocks → length ws ≡ length xs → xs ≡ here.instrs.items
       → IsPlaced (map block_of blocks) lives b at → at'.done ≤ at'.next → at'.next ≤ length ws → IsPlaced (map block_of (written ws)) lives b at'
@@ -130,7 +131,7 @@ module _ (blocks : List Block) (lives : List (Vec Live)) (b : ℕ) (r : Block) (
 
   -- the pair that is ready in the block
   pub ready_here : (xs : List Instr) (ls : List Live) (at : Standing) → b < length blocks → xs ≡ here.instrs.items → ls ≡ (get_or lives b v).items → IsPlaced (map block_of blocks) lives b at
-      → ready (reverse (take at.done (instrs_of xs))) (instrs_ahead (holds_at ls) at.next (drop at.next (instrs_of xs))) ≡ pair_ready (place_of (map block_of blocks) lives b at)
+      → ready (reverse (take at.done (instrs_of xs))) (instrs_ahead (holds_at ls) at.next (drop at.next (instrs_of xs))) ≡ pair_ready (scan_by (map block_of blocks) lives b at)
   ready_here xs ls at h x_is l_is p =
       let live : ls ≡ lives_at lives b = l_is ∙ sym (lives_get lives b v (omega (arith, p.sets, length-map blocks block_of))) in
       let code = map block_of blocks in
@@ -142,9 +143,9 @@ module _ (blocks : List Block) (lives : List (Vec Live)) (b : ℕ) (r : Block) (
   -- the pair that is ready in the block was tried
   pub tried_written : (m : Machine) (ws xs : List Instr) (ls : List Live) (at at' : Standing) → b < length blocks → length ws ≡ length xs → xs ≡ here.instrs.items → ls ≡ (get_or lives b v).items → IsPlaced (map block_of blocks) lives b at
       → IsTriedIn m (stand_at (instrs_of xs) (holds_at ls) at.done at.next at.changed) (stand_at (instrs_of ws) (holds_at ls) at'.done at'.next at'.changed)
-      → IsTried m (place_of (map block_of blocks) lives b at) (place_of (map block_of (written ws)) lives b at')
+      → IsTried m (scan_by (map block_of blocks) lives b at) (scan_by (map block_of (written ws)) lives b at')
   tried_written m ws xs ls at at' h n x_is l_is p t = record {
     outcome = t.outcome;
     is_answer = subst (λ r. IsAnswer m r t.outcome) (ready_here xs ls at h x_is l_is p) t.is_answer;
-    goes_on = place_written ws xs ls at at' (on (settled t.outcome)) h n x_is l_is p t.goes_on ∙ settled_within t.outcome (place_of (map block_of blocks) lives b at);
+    goes_on = place_written ws xs ls at at' (on (settled t.outcome)) h n x_is l_is p t.goes_on ∙ settled_within t.outcome (scan_by (map block_of blocks) lives b at);
   }

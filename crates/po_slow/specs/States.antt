@@ -1,31 +1,37 @@
 -- Where the scan stands that a ScanState holds, and what every ScanState has.
 --
--- A block is scanned in place: its first instructions are those that are done, its last ones those that are to come, and what lies
--- between them is left over.
+-- A block is scanned in place: its first instructions are those that are done, its last ones those that are to come,
+-- and what lies between them is left over.
 use Rattle.std.specs.Prelude.{ℕ, zero, suc, ◌≡◌, ◌≤◌, ◌<◌, Bool, List, [], ◌∷◌, ◌++◌, map, reverse, take, drop, length, All, Option, Some, None, ⊤}
 use Rattle.std.specs.Global.{Vec}
 use Rattle.po_term.specs.Form.{WellFormed}
 use Rattle.po_model.specs.declared.pair.Live.{Live}
 use Rattle.po_model.specs.declared.machine.Machine.{Machine}
 use Rattle.po_model.specs.declared.var.Var.{Var}
-use Rattle.po_model.specs.Blocks.{PlainInstr, PlainBlock, code_of, instrs_at, ending_of, EndsLast}
+use Rattle.po_model.specs.Blocks.{PlainBlock, code_of, instrs_at, EndsLast}
 use Rattle.po_model.specs.LiveSets.{holds_at, lives_at}
 use Rattle.po_model.specs.Pairs.{PlainPair, pair_of, WellFormedPair}
-use Rattle.po_model.specs.Combined.{Kept, Gone, AsOne, combination}
-use Rattle.po_model.specs.Scanned.{Answer, Ahead, Stand, InBlock, Scan, Within, Finished, enter, instrs_ahead, blocks_ahead, ready, settled, pair_ready, after_try}
+use Rattle.po_model.specs.Combined.{Kept, Gone, AsOne, combination, Answer}
+use Rattle.po_model.specs.Scanned.{Ahead, Stand, InBlock, Scan, Within, Finished, enter, instrs_ahead, blocks_ahead, ready, settled, pair_ready, after_try, IsAtEnd}
 use Rattle.po_slow.specs.declared.block.Standing.{Standing}
 use Rattle.po_slow.specs.declared.block.Stage.{Stage}
 use Rattle.po_slow.specs.declared.block.Stage.TheVariants as stage
 use Rattle.po_slow.specs.declared.state.Ask.{Ask}
 use Rattle.po_slow.specs.declared.state.Ask.TheVariants as ask
 use Rattle.po_slow.specs.declared.state.ScanState.{ScanState}
-use Rattle.po_slow.specs.Passes.{IsFormedCode}
+use Rattle.po_term.specs.Moves.{PlainInstr}
+use Rattle.po_model.specs.Parts.{ending_of}
+use Rattle.po_model.specs.UnitCodes.{IsFormedCode}
 
 -- The place
 
 -- where the scan of a block stands whose first instructions are done and that goes on at the place `next`
 abbrev pub stand_at : List PlainInstr → (ℕ → Var → Bool) → ℕ → ℕ → Bool → Stand
-stand_at xs live done next changed = record { done = reverse (take done xs); rest = instrs_ahead live next (drop next xs); changed = changed }
+stand_at xs live done next changed = record {
+  done = reverse (take done xs);
+  rest = instrs_ahead live next (drop next xs);
+  changed = changed;
+}
 
 -- on from there
 abbrev pub on : (List PlainInstr → List Ahead → Bool → Stand) → Stand → Stand
@@ -39,7 +45,12 @@ take_next done (x ∷ xs) changed = record { done = x.instr ∷ done; rest = xs;
 -- where the scan of a code stands in the first of these blocks, the b-th of the code; at the finish where there is none
 abbrev pub place_in : (ℕ → ℕ → Var → Bool) → ℕ → ℕ → ℕ → Bool → List PlainBlock → List PlainBlock → Scan
 place_in live b done next changed passed [] = Finished (reverse passed)
-place_in live b done next changed passed (x ∷ xs) = Within (record { label = x.label; stand = stand_at x.instrs (live b) done next changed; passed = passed; coming = blocks_ahead live (suc b) xs })
+place_in live b done next changed passed (x ∷ xs) = Within (record {
+  label = x.label;
+  stand = stand_at x.instrs (live b) done next changed;
+  passed = passed;
+  coming = blocks_ahead live (suc b) xs;
+})
 
 -- where it stands in the b-th block
 abbrev pub place_at : List PlainBlock → (ℕ → ℕ → Var → Bool) → ℕ → ℕ → ℕ → Bool → Scan
@@ -50,12 +61,12 @@ abbrev pub told : List (Vec Live) → ℕ → ℕ → Var → Bool
 told lives b = holds_at (lives_at lives b)
 
 -- where it stands in the b-th block, with these live sets
-abbrev pub place_of : List PlainBlock → List (Vec Live) → ℕ → Standing → Scan
-place_of code lives b at = place_at code (told lives) b at.done at.next at.changed
+abbrev pub scan_by : List PlainBlock → List (Vec Live) → ℕ → Standing → Scan
+scan_by code lives b at = place_at code (told lives) b at.done at.next at.changed
 
 -- where the scan of a ScanState stands
 abbrev pub scan_of : ScanState → Scan
-scan_of s = place_of (code_of s.code) s.lives.after.items s.block s.at
+scan_of s = scan_by (code_of s.code) s.lives.after.items s.block s.at
 
 -- into the b-th block of a code, or to the finish where there is none
 abbrev pub enter_at : List PlainBlock → List (Vec Live) → ℕ → Bool → Scan
@@ -68,11 +79,6 @@ within f (Finished code) = Finished code
 
 -- What is asked
 
--- the scan is at the end of a block: it is within one, and no pair is ready
-abbrev pub IsAtEnd : Scan → Type 0
-IsAtEnd (Within s) = ready s.stand.done s.stand.rest ≡ None
-IsAtEnd (Finished code) = ⊥
-
 -- the scan is at its finish
 abbrev pub IsFinished : Scan → Type 0
 IsFinished (Within s) = ⊥
@@ -84,7 +90,8 @@ Asks s (ask.Pair p) = (pair_ready s ≡ Some (pair_of p)) × WellFormedPair (pai
 Asks s ask.BlockEnd = IsAtEnd s
 Asks s ask.Finished = IsFinished s
 
--- an answer may be given for the pair that is ready: one instruction is well formed, and has a control transfer only where B has one
+-- an answer may be given for the pair that is ready: one instruction is well formed, and has a control transfer only
+-- where B has one
 abbrev pub CanAnswer : Option PlainPair → Answer → Type 0
 CanAnswer None o = ⊥
 CanAnswer (Some p) Kept = ⊤
@@ -119,7 +126,8 @@ pub record IsFormedList (xs : List PlainInstr) : Type 0 where
   pub ends_last : EndsLast xs
   pub formed : All WellFormed xs
 
--- that in all blocks, of those to come as they were at the start of the pass; and the block's end is reached where nothing is done
+-- that in all blocks, of those to come as they were at the start of the pass; and the block's end is reached where
+-- nothing is done
 pub record IsFormedBlock (s : InBlock) : Type 0 where
   pub here : IsFormedList (instrs_in s.stand)
   pub passed : All (λ b. IsFormedList b.instrs) s.passed
@@ -159,7 +167,7 @@ cut (x ∷ xs) (suc b) n = x ∷ cut xs b n
 -- how the scan stands: a pair is ready, a block is at its end, or all blocks are passed
 abbrev pub StandsAs : List PlainBlock → List (Vec Live) → ℕ → Standing → Stage → Type 0
 StandsAs code lives b at stage.Ready = HasPair code b at
-StandsAs code lives b at stage.AtEnd = (b < length code) × IsAtEnd (place_of code lives b at)
+StandsAs code lives b at stage.AtEnd = (b < length code) × IsAtEnd (scan_by code lives b at)
 StandsAs code lives b at stage.Over = length code ≤ b
 
 pub record IsFormedState (s : ScanState) : Type 0 where

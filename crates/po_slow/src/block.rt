@@ -1,5 +1,5 @@
-//! Where the scan of a block stands. The block is scanned in place: its first instructions are those that are done, its last ones
-//! those that are to come, and what lies between them is left over.
+//! Where the scan of a block stands. The block is scanned in place: its first instructions are those that are done,
+//! its last ones those that are to come, and what lies between them is left over.
 ghost use Rattle.std.specs.Prelude.{ℕ, ◌≡◌, ◌<◌, ◌≤◌, ◌+◌, ◌-◌, ◌^◌, Bool, true, false, length, slice_set, slice_index_or};
 ghost use Rattle.po_term.specs.Moves.{instr_of, instrs_of};
 ghost use Rattle.po_model.specs.declared.var.Var.{Var as Variable};
@@ -64,7 +64,8 @@ fn take(alloc: Global, xs: &mut [Instr], at: &mut Standing)
     requires order { at.old.done ≤ at.old.next }
     requires inside { at.old.next < length xs.old }
     ensures at { at.new ≡ record { done = at.old.done + 1; next = at.old.next + 1; changed = at.old.changed } }
-    ensures stand { (live : ℕ → Variable → Bool) → stand_at (instrs_of xs.new) live at.new.done at.new.next at.new.changed
+    ensures stand { (live : ℕ → Variable → Bool)
+        → stand_at (instrs_of xs.new) live at.new.done at.new.next at.new.changed
         ≡ on take_next (stand_at (instrs_of xs.old) live at.old.done at.old.next at.old.changed) }
 {
     let x = take_out(alloc, xs, at.next);
@@ -80,7 +81,8 @@ fn advance(alloc: Global, xs: &mut [Instr], lives: &[Live], at: &mut Standing) -
     requires lives { length xs.old ≤ length lives.now }
     ensures onward { on onward (stand_at (instrs_of xs.new) (holds_at lives.now) at.new.done at.new.next at.new.changed)
         ≡ on onward (stand_at (instrs_of xs.old) (holds_at lives.now) at.old.done at.old.next at.old.changed) }
-    ensures stays { result ≡ false → stand_at (instrs_of xs.new) (holds_at lives.now) at.new.done at.new.next at.new.changed
+    ensures stays { result ≡ false
+        → stand_at (instrs_of xs.new) (holds_at lives.now) at.new.done at.new.next at.new.changed
         ≡ on onward (stand_at (instrs_of xs.new) (holds_at lives.now) at.new.done at.new.next at.new.changed) }
     ensures steps { result ≡ true → at.new.next ≡ at.old.next + 1 }
     ensures order { at.new.done ≤ at.new.next }
@@ -142,7 +144,8 @@ fn place(alloc: Global, xs: &mut [Instr], at: &mut Standing, o: Outcome)
     requires some { 0 < at.old.done }
     requires order { at.old.done ≤ at.old.next }
     requires inside { at.old.next < length xs.old }
-    ensures onward { (live : ℕ → Variable → Bool) → on onward (stand_at (instrs_of xs.new) live at.new.done at.new.next at.new.changed)
+    ensures onward { (live : ℕ → Variable → Bool)
+        → on onward (stand_at (instrs_of xs.new) live at.new.done at.new.next at.new.changed)
         ≡ on (settled (combination_of o)) (stand_at (instrs_of xs.old) live at.old.done at.old.next at.old.changed) }
     ensures order { at.new.done ≤ at.new.next }
     ensures inside { at.new.next ≤ length xs.new }
@@ -161,7 +164,8 @@ pub fn settle(alloc: Global, xs: &mut [Instr], lives: &[Live], at: &mut Standing
     requires inside { at.old.next < length xs.old }
     requires lives { length xs.old ≤ length lives.now }
     ensures settled { stand_at (instrs_of xs.new) (holds_at lives.now) at.new.done at.new.next at.new.changed
-        ≡ on (settled (combination_of o)) (stand_at (instrs_of xs.old) (holds_at lives.now) at.old.done at.old.next at.old.changed) }
+        ≡ on (settled (combination_of o))
+        (stand_at (instrs_of xs.old) (holds_at lives.now) at.old.done at.old.next at.old.changed) }
     ensures order { at.new.done ≤ at.new.next }
     ensures inside { at.new.next ≤ length xs.new }
 {

@@ -80,9 +80,11 @@ fn put_targets(regs: &mut BTreeSet<Reg>, xs: &[Transfer], live: &Live) -> Result
     Ok(())
 }
 
-/// What is live after a pair, from what is live after its second instruction: of the registers that the two set, and whether `cc` is.
+/// What is live after a pair, from what is live after its second instruction: of the registers that the two set, and
+/// whether `cc` is.
 pub fn pair_live(alloc: Global, a: &Instr, b: &Instr, live: &Live) -> Result<Live, OutOfMemory>
-    ensures regs { IfOk result (λ l. l.regs.keys ≡ put_live (holds live.now) (instr_of b.now) (put_live (holds live.now) (instr_of a.now) [])) }
+    ensures regs { IfOk result (λ l. l.regs.keys
+        ≡ put_live (holds live.now) (instr_of b.now) (put_live (holds live.now) (instr_of a.now) [])) }
     ensures cc { IfOk result (λ l. l.cc ≡ live.now.cc) }
 {
     let mut regs = BTreeSet::new(alloc);

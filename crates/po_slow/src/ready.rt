@@ -27,7 +27,8 @@ pub fn copy_pair(
     requires order { at.done ≤ at.next }
     requires inside { at.next < length xs.now }
     requires lives { length xs.now ≤ length lives.now }
-    ensures { IfOk result (λ p. ready (reverse (take at.done (instrs_of xs.now))) (instrs_ahead (holds_at lives.now) at.next (drop at.next (instrs_of xs.now))) ≡ Some (pair_of p)) }
+    ensures { IfOk result (λ p. ready (reverse (take at.done (instrs_of xs.now)))
+        (instrs_ahead (holds_at lives.now) at.next (drop at.next (instrs_of xs.now))) ≡ Some (pair_of p)) }
 {
     let last = &xs[at.done - 1];
     let next = &xs[at.next];
@@ -48,7 +49,8 @@ fn take_pair(
     requires order { at.done ≤ at.next }
     requires inside { at.next < length xs.old }
     requires lives { length xs.old ≤ length lives.now }
-    ensures ready { IfOk result (λ p. ready (reverse (take at.done (instrs_of xs.old))) (instrs_ahead (holds_at lives.now) at.next (drop at.next (instrs_of xs.old))) ≡ Some (pair_of p)) }
+    ensures ready { IfOk result (λ p. ready (reverse (take at.done (instrs_of xs.old)))
+        (instrs_ahead (holds_at lives.now) at.next (drop at.next (instrs_of xs.old))) ≡ Some (pair_of p)) }
     ensures taken { IfOk result (λ p. slice_set (slice_set xs.new (at.done - 1) p.a) at.next p.b ≡ xs.old) }
     ensures unchanged { OnErr result (xs.new ≡ xs.old) }
 {
@@ -84,7 +86,8 @@ fn outcome<L: Ledger>(
     requires order { at.done ≤ at.next }
     requires inside { at.next < length xs.old }
     requires lives { length xs.old ≤ length lives.now }
-    ensures answer { IfOk result (λ o. IsAnswer m.now (ready (reverse (take at.done (instrs_of xs.old))) (instrs_ahead (holds_at lives.now) at.next (drop at.next (instrs_of xs.old)))) (combination_of o)) }
+    ensures answer { IfOk result (λ o. IsAnswer m.now (ready (reverse (take at.done (instrs_of xs.old)))
+        (instrs_ahead (holds_at lives.now) at.next (drop at.next (instrs_of xs.old)))) (combination_of o)) }
     ensures unchanged { xs.new ≡ xs.old }
     ensures counted { IfOk result (λ o. steps.new ≡ steps.old + 1) }
 {
@@ -108,7 +111,8 @@ pub fn try_pair<L: Ledger>(
     requires order { at.old.done ≤ at.old.next }
     requires inside { at.old.next < length xs.old }
     requires lives { length xs.old ≤ length lives.now }
-    ensures tried { OnOk result (IsTriedIn m.now (stand_at (instrs_of xs.old) (holds_at lives.now) at.old.done at.old.next at.old.changed)
+    ensures tried { OnOk result (IsTriedIn m.now
+        (stand_at (instrs_of xs.old) (holds_at lives.now) at.old.done at.old.next at.old.changed)
         (stand_at (instrs_of xs.new) (holds_at lives.now) at.new.done at.new.next at.new.changed)) }
     ensures order { at.new.done ≤ at.new.next }
     ensures inside { at.new.next ≤ length xs.new }

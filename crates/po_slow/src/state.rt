@@ -1,11 +1,11 @@
 //! Where the scan of a code stands.
-ghost use Rattle.std.specs.Prelude.{◌≡◌, ◌<◌, ◌+◌, length, true, IfOk, OnOk, OnErr};
+ghost use Rattle.std.specs.Prelude.{◌≡◌, ◌<◌, ◌+◌, ◌↔◌, length, true, IsTrue, IfOk, OnOk, OnErr};
 ghost use Rattle.po_model.specs.Blocks.{code_of};
 ghost use Rattle.po_model.specs.Combined.{combination_of};
 ghost use Rattle.po_model.specs.Machines.{IsMachine};
-ghost use Rattle.po_model.specs.Scanned.{Finished, IsPassStart, AfterEnd, pair_ready, after_try};
-ghost use Rattle.po_slow.specs.Passes.{IsFormedCode};
-ghost use Rattle.po_slow.specs.States.{scan_of, enter_at, Asks, CanAnswer, StandsAs, HasPair, IsAtEnd, IsFinished, IsCut, IsPlaced, IsTried, IsFormedState};
+ghost use Rattle.po_model.specs.Scanned.{Finished, IsPassStart, IsAtEnd, AfterEnd, pair_ready, after_try};
+ghost use Rattle.po_slow.specs.States.{scan_of, enter_at, Asks, CanAnswer, StandsAs, HasPair, IsFinished, IsCut, IsPlaced, IsTried, IsFormedState};
+ghost use Rattle.po_model.specs.UnitCodes.{IsFormedCode};
 
 use crate::block::{Stage, Standing};
 use crate::within::{copy_within, cut_within, go_on_within, settle_within, stage, try_within};
@@ -43,8 +43,8 @@ pub struct ScanState {
 }
 
 impl ScanState {
-    /// The start of the first pass over a code (docs/OPTIMISER.md, "The scan"), or want of memory. The code's instructions are well
-    /// formed, and a control transfer stands only in the last one of a block.
+    /// The start of the first pass over a code (docs/OPTIMISER.md, "The scan"), or want of memory. The code's
+    /// instructions are well formed, and a control transfer stands only in the last one of a block.
     pub fn new(alloc: Global, code: Code) -> Result<ScanState, OutOfMemory>
         requires { IsFormedCode (code_of code) }
         ensures starts { IfOk result (λ s. IsPassStart (code_of code) (scan_of s)) }
@@ -73,8 +73,8 @@ impl ScanState {
         }
     }
 
-    /// From the end of a block to the next one, to the next pass or to the finish (docs/OPTIMISER.md, "The scan"). It is called only
-    /// where the scan is at the end of a block. Where memory is wanting, the scan stays where it is.
+    /// From the end of a block to the next one, to the next pass or to the finish (docs/OPTIMISER.md, "The scan"). It
+    /// is called only where the scan is at the end of a block. Where memory is wanting, the scan stays where it is.
     pub fn next_block(&mut self, alloc: Global) -> Result<(), OutOfMemory>
         requires formed { IsFormedState self.old }
         requires at_end { IsAtEnd (scan_of self.old) }
@@ -95,9 +95,17 @@ impl ScanState {
         self.code
     }
 
+    /// Whether all passes are made (docs/OPTIMISER.md, "The scan"). It takes no memory.
+    pub fn is_finished(&self) -> bool
+        requires { IsFormedState self.now }
+        ensures { IsTrue result ↔ IsFinished (scan_of self.now) }
+    {
+        self.block >= self.code.blocks.len()
+    }
+
     /// How the scan stands.
     pub(crate) fn stage(&self) -> Stage
-        requires { IsPlaced (code_of self.now.code) self.now.lives.after.items self.now.block self.now.at }
+        requires { IsFormedState self.now }
         ensures { StandsAs (code_of self.now.code) self.now.lives.after.items self.now.block self.now.at result }
     {
         stage(&self.code.blocks, &self.lives.after, self.block, self.at)
@@ -122,7 +130,8 @@ impl ScanState {
     fn enter(&mut self, alloc: Global)
         requires placed { IsPlaced (code_of self.old.code) self.old.lives.after.items self.old.block self.old.at }
         requires start { (self.old.at.done ≡ 0) × (self.old.at.next ≡ 0) }
-        ensures scan { scan_of self.new ≡ enter_at (code_of self.old.code) self.old.lives.after.items self.old.block self.old.at.changed }
+        ensures scan { scan_of self.new
+            ≡ enter_at (code_of self.old.code) self.old.lives.after.items self.old.block self.old.at.changed }
         ensures placed { IsPlaced (code_of self.new.code) self.new.lives.after.items self.new.block self.new.at }
     {
         let ScanState {
@@ -242,9 +251,10 @@ impl ScanState {
     }
 }
 
-/// On from the pair that is ready, by what becomes of it (docs/OPTIMISER.md, "The scan"). It is called only where a pair is ready. Where
-/// `o` is one instruction, that is well formed, and has a control transfer only where the pair's second instruction has one. What goes
-/// stays in the block's memory until the block's end. Where memory is wanting, the scan stays where it is.
+/// On from the pair that is ready, by what becomes of it (docs/OPTIMISER.md, "The scan"). It is called only where a
+/// pair is ready. Where `o` is one instruction, that is well formed, and has a control transfer only where the pair's
+/// second instruction has one. What goes stays in the block's memory until the block's end. Where memory is wanting,
+/// the scan stays where it is.
 pub fn scan_step(alloc: Global, s: &mut ScanState, o: Outcome) -> Result<(), OutOfMemory>
     requires formed { IsFormedState s.old }
     requires answer { CanAnswer (pair_ready (scan_of s.old)) (combination_of o) }

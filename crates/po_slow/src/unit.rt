@@ -2,8 +2,8 @@
 ghost use Rattle.std.specs.Prelude.{ℕ, ◌≡◌, ◌+◌, ◌<◌, true, IfOk, OnOk};
 ghost use Rattle.po_model.specs.Blocks.{code_of};
 ghost use Rattle.po_model.specs.Machines.{IsMachine};
-ghost use Rattle.po_model.specs.UnitCodes.{unit_of};
-ghost use Rattle.po_slow.specs.Passes.{IsFormedCode, IsSlowedUnit};
+ghost use Rattle.po_model.specs.UnitCodes.{unit_of, IsFormedCode};
+ghost use Rattle.po_slow.specs.Passes.{IsSlowedUnit};
 ghost use Rattle.po_slow.specs.States.{scan_of, IsFormedState};
 ghost use Rattle.po_slow.specs.Steps.{IsStepOn, IsSlowedWith};
 
@@ -55,9 +55,9 @@ fn all_passes<L: Ledger>(
     Ok(s.code())
 }
 
-/// The unit that all passes make of a unit on a machine, or want of memory (docs/OPTIMISER.md, "The scan"). The machine is one that a
-/// description may tell of; the unit's instructions are well formed, and a control transfer stands only in the last one of a block. A
-/// step is counted for each pair that is tried.
+/// The unit that all passes make of a unit on a machine, or want of memory (docs/OPTIMISER.md, "The scan"). The
+/// machine is one that a description may tell of; the unit's instructions are well formed, and a control transfer
+/// stands only in the last one of a block. A step is counted for each pair that is tried.
 pub fn slow_unit<L: Ledger>(
     alloc: Global,
     m: &Machine,
@@ -66,7 +66,8 @@ pub fn slow_unit<L: Ledger>(
 ) -> Result<UnitCode, OutOfMemory>
     requires machine { IsMachine m.now }
     requires code { IsFormedCode (code_of u.code) }
-    ensures slowed { IfOk result (λ v. (tries : ℕ) × IsSlowedUnit m.now (unit_of u) (unit_of v) tries × (steps.new ≡ steps.old + tries)) }
+    ensures slowed { IfOk result (λ v. (tries : ℕ)
+        × IsSlowedUnit m.now (unit_of u) (unit_of v) tries × (steps.new ≡ steps.old + tries)) }
 {
     let UnitCode {
         name,

@@ -4,7 +4,7 @@ ghost use Rattle.po_model.specs.Blocks.{block_of};
 ghost use Rattle.po_model.specs.Pairs.{pair_of};
 ghost use Rattle.po_model.specs.Combined.{combination_of};
 ghost use Rattle.po_model.specs.Scanned.{onward, pair_ready, after_try};
-ghost use Rattle.po_slow.specs.States.{place_of, within, on, cut, IsPlaced, HasPair, IsTried, StandsAs};
+ghost use Rattle.po_slow.specs.States.{scan_by, within, on, cut, IsPlaced, IsFormedScan, HasPair, IsTried, StandsAs};
 
 use crate::block::{Stage, Standing, go_on, settle};
 use crate::ready::{copy_pair, try_pair};
@@ -15,7 +15,8 @@ use std::sync::ledger::Ledger;
 
 /// How the scan stands in the b-th block.
 pub fn stage(blocks: &[Block], lives: &[Vec<Live>], b: usize, at: Standing) -> Stage
-    requires { IsPlaced (map block_of blocks.now) lives.now b at }
+    requires placed { IsPlaced (map block_of blocks.now) lives.now b at }
+    requires formed { IsFormedScan (scan_by (map block_of blocks.now) lives.now b at) }
     ensures { StandsAs (map block_of blocks.now) lives.now b at result }
 {
     if b >= blocks.len() {
@@ -37,7 +38,7 @@ pub fn copy_within(
 ) -> Result<Pair, OutOfMemory>
     requires ready { HasPair (map block_of blocks.now) b at }
     requires placed { IsPlaced (map block_of blocks.now) lives.now b at }
-    ensures { IfOk result (λ p. pair_ready (place_of (map block_of blocks.now) lives.now b at) ≡ Some (pair_of p)) }
+    ensures { IfOk result (λ p. pair_ready (scan_by (map block_of blocks.now) lives.now b at) ≡ Some (pair_of p)) }
 {
     copy_pair(alloc, &blocks[b].instrs, &lives[b], at)
 }
@@ -60,7 +61,8 @@ pub fn go_on_within(
 )
     requires block { b < length blocks.old }
     requires placed { IsPlaced (map block_of blocks.old) lives.now b at.old }
-    ensures place { place_of (map block_of blocks.new) lives.now b at.new ≡ within (on onward) (place_of (map block_of blocks.old) lives.now b at.old) }
+    ensures place { scan_by (map block_of blocks.new) lives.now b at.new
+        ≡ within (on onward) (scan_by (map block_of blocks.old) lives.now b at.old) }
     ensures placed { IsPlaced (map block_of blocks.new) lives.now b at.new }
 {
     go_on(alloc, &mut blocks[b].instrs, &lives[b], at);
@@ -77,7 +79,8 @@ pub fn settle_within(
 )
     requires ready { HasPair (map block_of blocks.old) b at.old }
     requires placed { IsPlaced (map block_of blocks.old) lives.now b at.old }
-    ensures place { place_of (map block_of blocks.new) lives.now b at.new ≡ after_try (combination_of o) (place_of (map block_of blocks.old) lives.now b at.old) }
+    ensures place { scan_by (map block_of blocks.new) lives.now b at.new
+        ≡ after_try (combination_of o) (scan_by (map block_of blocks.old) lives.now b at.old) }
     ensures placed { IsPlaced (map block_of blocks.new) lives.now b at.new }
 {
     settle(alloc, &mut blocks[b].instrs, &lives[b], at, o);
@@ -96,7 +99,8 @@ pub fn try_within<L: Ledger>(
     requires entries { length m.now.entries < 2 ^ 32 }
     requires ready { HasPair (map block_of blocks.old) b at.old }
     requires placed { IsPlaced (map block_of blocks.old) lives.now b at.old }
-    ensures tried { OnOk result (IsTried m.now (place_of (map block_of blocks.old) lives.now b at.old) (place_of (map block_of blocks.new) lives.now b at.new)) }
+    ensures tried { OnOk result (IsTried m.now (scan_by (map block_of blocks.old) lives.now b at.old)
+        (scan_by (map block_of blocks.new) lives.now b at.new)) }
     ensures placed { IsPlaced (map block_of blocks.new) lives.now b at.new }
     ensures counted { OnOk result (steps.new ≡ steps.old + 1) }
 {

@@ -1,4 +1,5 @@
 use Rattle.po_model.specs.Blocks.{code_of}
+use Rattle.po_model.specs.Combined.{combination}
 use Rattle.po_slow.specs.States.{scan_of}
 use Rattle.po_slow.proofs.Steps.{one_step, gone_more}
 use Rattle.po_slow.proofs.Work.{step_less}
@@ -9,7 +10,7 @@ scan-smaller g c =
     let s = scan_of c.scan.s in
     let t = scan_of c.step.new.s in
     let o = one_step c.args.m.now s t c.scan.steps c.step.new.steps c.in_ok-step.field-0 c.in_ok-step.ensures.steps c.if-branch.true in
-    step_less c.args.m.now s t o.step o.goes
+    step_less (combination c.args.m.now) s t o.step o.goes
 
 pub scan-preserved : goal.scan-preserved
 scan-preserved g c =

@@ -19,6 +19,6 @@ returns-else-at-gt0 c =
       block,
       elim c.else-at-gt0.branch [
         | else-at-gt0-via-then-at-gt0+else-at-len w ↦ at_end_next (map block_of c.args.blocks.now) c.args.lives.now c.args.b c.args.at block (omega (arith, instrs_len c.args.blocks.now c.args.b w.index-blocks-b.result c.if-b-blocks.false))
-        | else-at-gt0-via-else-at-gt0 w ↦ at_end_done (map block_of c.args.blocks.now) c.args.lives.now c.args.b c.args.at block (omega (arith, w.if-at-gt0.false))
+        | else-at-gt0-via-else-at-gt0 w ↦ at_end_done (map block_of c.args.blocks.now) c.args.lives.now c.args.b c.args.at block c.requires.formed (omega (arith, w.if-at-gt0.false))
       ],
     )

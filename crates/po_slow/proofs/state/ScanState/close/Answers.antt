@@ -1,6 +1,6 @@
 use Rattle.std.proofs.Common.{◌∙◌, length, map, sym, ap, subst}
 use Rattle.po_model.specs.Blocks.{block_of, code_of}
-use Rattle.po_slow.specs.States.{place_of, cut, IsPlaced, IsCut, IsFormedScan}
+use Rattle.po_slow.specs.States.{scan_by, cut, IsPlaced, IsCut, IsFormedScan}
 use Rattle.po_slow.proofs.Places.{end_block, cut_same, cut_placed, cut_cut}
 use Rattle.po_slow.proofs.Written.{code_with}
 use Rattle.po_slow.proofs.state.ScanState.close.Goals as goal
@@ -9,7 +9,7 @@ pub returns-clause-same : goal.returns-clause-same
 returns-clause-same c =
     let s = c.args.self.now in
     let e = code_with s.code.blocks c.cut_within.new.blocks (c.cut_within.auto.blocks ∙ ap length c.deref_mut.ensures.value) ∙ (c.cut_within.ensures ∙ ap (λ l. cut (map block_of l) s.block s.at.done) c.deref_mut.ensures.value) in
-    ap (λ code. place_of code s.lives.after.items s.block (record { done = s.at.done; next = s.at.done; changed = s.at.changed })) e ∙ cut_same (code_of s.code) s.lives.after.items s.block s.at c.requires.formed.formed c.requires.at_end
+    ap (λ code. scan_by code s.lives.after.items s.block (record { done = s.at.done; next = s.at.done; changed = s.at.changed })) e ∙ cut_same (code_of s.code) s.lives.after.items s.block s.at c.requires.at_end
 
 pub returns-clause-formed : goal.returns-clause-formed
 returns-clause-formed c =

@@ -1,5 +1,0 @@
-use Rattle.std.proofs.Common.{length}
-use Rattle.po_slow.proofs.tests.scan.+is_plain.Given as goal
-
-abbrev pub decreases-is_plain : goal.decreases-is_plain
-decreases-is_plain l = length l.xs.now
