@@ -12,31 +12,33 @@ use Rattle.po_run.specs.declared.refusal.Refusal.{Refusal}
 use Rattle.po_run.specs.declared.refusal.Refusal.TheVariants as refusal
 use Rattle.po_run.specs.Input.{Program}
 use Rattle.po_run.specs.Modes.{IsCodeIn}
-use Rattle.po_run.specs.Output.{Fits, HasRoom, AreAssembled, IsOutputOf, naive_codes}
+use Rattle.po_run.specs.Output.{AllFit, HasRoom, AreAssembled, IsOutputOf, naive_codes}
 use Rattle.po_run.specs.Steps.{units_of, Assigned, Assembles}
 use Rattle.po_run.proofs.Runs.{codes_run}
 use Rattle.po_run.proofs.Slowed.{made_fits}
 
 -- naive code that is recognised, and the codes that the mode makes of it
 pub record IsMade (mode : Mode) (m : Machine) (us : List StackUnit) (made : List PlainUnit) : Type 0 where
-  pub fits : All (Fits m) (naive_codes us)
+  pub fits : All (AllFit m) (naive_codes us)
   pub naive_formed : All IsUnitCode (naive_codes us)
   pub codes : AllZip (IsCodeIn mode m) (naive_codes us) made
   pub formed : All IsUnitCode made
 
 pub made_so : (mode : Mode) (m : Machine) (us seen : List StackUnit) (cs cd made : List UnitCode)
-    → units_of cs ≡ map naive seen → seen ≡ us → cd ≡ cs → All IsUnitCode (units_of cs) → All (Fits m) (units_of cd) → AllZip (IsCodeIn mode m) (units_of cs) (units_of made) → All IsUnitCode (units_of made)
+    → units_of cs ≡ map naive seen → seen ≡ us → cd ≡ cs → All IsUnitCode (units_of cs) → All (AllFit m) (units_of cd)
+    → AllZip (IsCodeIn mode m) (units_of cs) (units_of made) → All IsUnitCode (units_of made)
     → IsMade mode m us (units_of made)
 made_so mode m us seen cs cd made e s d naive_formed fits codes formed =
     let same : units_of cs ≡ naive_codes us = e ∙ ap naive_codes s in record {
-      fits = subst (λ (us : List PlainUnit). All (Fits m) us) (ap units_of d ∙ same) fits;
+      fits = subst (λ (us : List PlainUnit). All (AllFit m) us) (ap units_of d ∙ same) fits;
       naive_formed = subst (λ (us : List PlainUnit). All IsUnitCode us) same naive_formed;
       codes = subst (λ (us : List PlainUnit). AllZip (IsCodeIn mode m) us (units_of made)) same codes;
       formed = formed;
     }
 
 pub output_of : (mode : Mode) (m : Machine) (us : List StackUnit) (made placed : List PlainUnit) (out : List ℕ)
-    → IsMachine m → IsMade mode m us made → All (HasRoom m) made → placed ≡ made → AreAssembled m placed out → IsOutputOf mode m us out
+    → IsMachine m → IsMade mode m us made → All (HasRoom m) made → placed ≡ made → AreAssembled m placed out
+    → IsOutputOf mode m us out
 output_of mode m us made placed out is h room same assembled = record {
   fits = h.fits;
   made = made;
@@ -44,12 +46,14 @@ output_of mode m us made placed out is h room same assembled = record {
   fit = made_fits mode m (naive_codes us) made is h.codes h.naive_formed h.fits;
   room = room;
   assembled = subst (λ (vs : List PlainUnit). AreAssembled m vs out) same assembled;
-  runs = codes_run mode m us made is h.codes h.naive_formed h.formed room;
+  runs = codes_run mode m us made is h.codes h.naive_formed room;
 }
 
 -- the refusal of a code that is recognised
-pub refused : (mode : Mode) (p : Program) (made : List PlainUnit) (r : Refusal) → IsMade mode p.machine p.units made → Assigned p.machine made (Err r) → Assembles mode p (Err r)
+pub refused : (mode : Mode) (p : Program) (made : List PlainUnit) (r : Refusal) → IsMade mode p.machine p.units made
+    → Assigned p.machine made (Err r) → Assembles mode p (Err r)
 refused mode p made (refusal.BadText line col kind) h a = a
 refused mode p made (refusal.Unrecognised unit block index) h a = absurd a
-refused mode p made (refusal.TooFew unit point needed) h a = record { fits = h.fits; made = made; codes = h.codes; crowded = a }
+refused mode p made (refusal.TooFew unit point needed) h a =
+    record { fits = h.fits; made = made; codes = h.codes; crowded = a }
 refused mode p made refusal.OutOfMemory h a = tt

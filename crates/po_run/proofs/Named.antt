@@ -7,7 +7,8 @@ use Rattle.po_run.specs.declared.mode.Mode.{Mode}
 use Rattle.po_run.specs.declared.mode.Mode.TheVariants.{Naive, Slow}
 use Rattle.po_run.specs.Modes.{word_of, IsMode}
 
-pub unnamed : (word : List ℕ) → (word ≡ codes "naive" → ⊥) → (word ≡ codes "slow" → ⊥) → (mode : Mode) → word ≡ word_of mode → ⊥
+pub unnamed : (word : List ℕ) → (word ≡ codes "naive" → ⊥) → (word ≡ codes "slow" → ⊥) → (mode : Mode)
+    → word ≡ word_of mode → ⊥
 unnamed word naive slow Naive e = naive e
 unnamed word naive slow Slow e = slow e
 

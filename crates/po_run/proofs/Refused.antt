@@ -17,12 +17,16 @@ use Rattle.po_model.specs.Placement.{intervals}
 use Rattle.po_model.specs.Fitted.{IsUnrecognised}
 use Rattle.po_run.specs.Output.{IsShort}
 
-pub unrecognised : (m : Machine) (u : PlainUnit) (r : CheckRefusal) (b i : ℕ) → r ≡ check.Unrecognised b i → Checks m u.code (Err r) → IsUnrecognised u.code m b i
+pub unrecognised : (m : Machine) (u : PlainUnit) (r : CheckRefusal) (b i : ℕ) → r ≡ check.Unrecognised b i
+    → Checks m u.code (Err r) → IsUnrecognised u.code m b i
 unrecognised m u r b i e h = subst (λ (r : CheckRefusal). Checks m u.code (Err r)) e h
 
-pub crowded : (m : Machine) (u : PlainUnit) (r : AssignRefusal) (point needed : ℕ) → r ≡ assign.TooFew point needed → Refuses (length m.regs) (intervals (flat u.code)) r → IsShort m point needed u
+pub crowded : (m : Machine) (u : PlainUnit) (r : AssignRefusal) (point needed : ℕ) → r ≡ assign.TooFew point needed
+    → Refuses (length m.regs) (intervals (flat u.code)) r → IsShort m point needed u
 crowded m u r point needed e h = subst (λ (r : AssignRefusal). Refuses (length m.regs) (intervals (flat u.code)) r) e h
 
-pub too_long : (T : Type 0) (r : ReadRefusal) (limit line col : ℕ) (old new : Option (List ℕ)) → r ≡ read.TooLong line col → OnTooLong {T = T} (Err r) limit old new
-    → (bytes : List ℕ) × (limit < length bytes) × (old ≡ before_known bytes new) × ((line, col) ≡ place_behind (take limit bytes))
+pub too_long : (T : Type 0) (r : ReadRefusal) (limit line col : ℕ) (old new : Option (List ℕ))
+    → r ≡ read.TooLong line col → OnTooLong {T = T} (Err r) limit old new
+    → (bytes : List ℕ) × (limit < length bytes) × (old ≡ before_known bytes new)
+    × ((line, col) ≡ place_behind (take limit bytes))
 too_long T r limit line col old new e h = subst (λ (r : ReadRefusal). OnTooLong {T = T} (Err r) limit old new) e h

@@ -35,3 +35,7 @@ NamesMode words None = IsNoMode words
 abbrev pub IsCodeIn : Mode → Machine → PlainUnit → PlainUnit → Type 0
 IsCodeIn Naive m u v = v ≡ u
 IsCodeIn Slow m u v = (tries : ℕ) × IsSlowedUnit m u v tries
+
+-- any two codes that a mode makes of a unit are the same
+abbrev pub ModesMakeOneCode : Type 0
+ModesMakeOneCode = (mode : Mode) (m : Machine) (u v w : PlainUnit) → IsCodeIn mode m u v → IsCodeIn mode m u w → v ≡ w

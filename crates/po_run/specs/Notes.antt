@@ -27,8 +27,13 @@ abbrev pub note_line : Status → List ℕ
 note_line status.Done = []
 note_line status.Usage = usage
 note_line status.ReadFault = codes "po: read failed\n"
-note_line (status.BadText line col kind) = codes "po: line " ++ decimal line ++ codes ", column " ++ decimal col ++ codes ": " ++ kind_name kind ++ codes "\n"
-note_line (status.Unrecognised unit block index) = codes "po: unit " ++ decimal unit ++ codes ", block " ++ decimal block ++ codes ", instruction " ++ decimal index ++ codes ": not recognised\n"
-note_line (status.TooFew unit point needed) = codes "po: unit " ++ decimal unit ++ codes ", point " ++ decimal point ++ codes ": " ++ decimal needed ++ codes " registers needed\n"
+note_line (status.BadText line col kind) =
+    codes "po: line " ++ decimal line ++ codes ", column " ++ decimal col ++ codes ": " ++ kind_name kind ++ codes "\n"
+note_line (status.Unrecognised unit block index) =
+    codes "po: unit " ++ decimal unit ++ codes ", block " ++ decimal block
+    ++ codes ", instruction " ++ decimal index ++ codes ": not recognised\n"
+note_line (status.TooFew unit point needed) =
+    codes "po: unit " ++ decimal unit ++ codes ", point " ++ decimal point
+    ++ codes ": " ++ decimal needed ++ codes " registers needed\n"
 note_line (status.WriteFault written) = codes "po: write failed after " ++ decimal written ++ codes " bytes\n"
 note_line status.OutOfMemory = codes "po: out of memory\n"

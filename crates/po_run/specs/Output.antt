@@ -19,9 +19,9 @@ FirstBad good bad [] n = ⊥
 FirstBad good bad (x ∷ xs) zero = bad x
 FirstBad good bad (x ∷ xs) (suc n) = good x × FirstBad good bad xs n
 
--- each instruction fits an entry
-abbrev pub Fits : Machine → PlainUnit → Type 0
-Fits m u = IsRecognised u.code m
+-- each instruction of the unit fits an entry
+abbrev pub AllFit : Machine → PlainUnit → Type 0
+AllFit m u = IsRecognised u.code m
 
 -- the machine has a register for each value at each point
 abbrev pub HasRoom : Machine → PlainUnit → Type 0
@@ -34,7 +34,8 @@ IsShort m point needed u = IsCrowded (length m.regs) (intervals (flat u.code)) p
 -- the assembly of each of these units, one behind the other
 abbrev pub AreAssembled : Machine → List PlainUnit → List ℕ → Type 0
 AreAssembled m [] out = out ≡ []
-AreAssembled m (u ∷ us) out = (text : List ℕ) × (rest : List ℕ) × IsAssembly m (registers (length m.regs) (flat u.code)) u text × AreAssembled m us rest × (out ≡ text ++ rest)
+AreAssembled m (u ∷ us) out = (text : List ℕ) × (rest : List ℕ)
+    × IsAssembly m (registers (length m.regs) (flat u.code)) u text × AreAssembled m us rest × (out ≡ text ++ rest)
 
 -- the naive code of each unit
 abbrev pub naive_codes : List StackUnit → List PlainUnit
@@ -47,11 +48,11 @@ AreCodesIn mode m us vs = AllZip (IsCodeIn mode m) (naive_codes us) vs
 -- the output for a machine and units
 pub record IsOutputOf (mode : Mode) (m : Machine) (us : List StackUnit) (out : List ℕ) : Type 0 where
   -- each instruction of the naive codes fits an entry
-  pub fits : All (Fits m) (naive_codes us)
+  pub fits : All (AllFit m) (naive_codes us)
   -- the codes that the mode makes are assembled: each instruction fits, and the machine has a register for each value
   pub made : List PlainUnit
   pub codes : AreCodesIn mode m us made
-  pub fit : All (Fits m) made
+  pub fit : All (AllFit m) made
   pub room : All (HasRoom m) made
   pub assembled : AreAssembled m made out
   -- the placed code of each unit runs as its naive code
@@ -61,22 +62,29 @@ pub record IsOutputOf (mode : Mode) (m : Machine) (us : List StackUnit) (out : L
 abbrev pub IsOutput : Mode → List ℕ → List ℕ → Type 0
 IsOutput mode text out = (m : Machine) × (us : List StackUnit) × IsInput text m us × IsOutputOf mode m us out
 
--- in every mode: the instruction `index` of the block `block` of the naive code of the unit n is the first that no entry fits
+-- any two outputs of a text in a mode are the same
+abbrev pub TextsHaveOneOutput : Type 0
+TextsHaveOneOutput = (mode : Mode) (text out other : List ℕ) → IsOutput mode text out → IsOutput mode text other
+    → out ≡ other
+
+-- in every mode: the instruction `index` of the block `block` of the naive code of the unit n is the first that no entry
+-- fits
 abbrev pub HasUnfit : List ℕ → ℕ → ℕ → ℕ → Type 0
 HasUnfit text n block index = (m : Machine) × (us : List StackUnit) × IsInput text m us
-    × FirstBad (Fits m) (λ u. IsUnrecognised u.code m block index) (naive_codes us) n
+    × FirstBad (AllFit m) (λ u. IsUnrecognised u.code m block index) (naive_codes us) n
 
--- each instruction of the naive codes fits; of the codes that the mode makes the unit n is the first with a crowded point, and this is
--- its first one
+-- each instruction of the naive codes fits; of the codes that the mode makes the unit n is the first with a crowded point,
+-- and this is its first one
 pub record IsCrowdOf (mode : Mode) (m : Machine) (us : List StackUnit) (n point needed : ℕ) : Type 0 where
-  pub fits : All (Fits m) (naive_codes us)
+  pub fits : All (AllFit m) (naive_codes us)
   pub made : List PlainUnit
   pub codes : AreCodesIn mode m us made
   pub crowded : FirstBad (HasRoom m) (IsShort m point needed) made n
 
 abbrev pub HasCrowd : Mode → List ℕ → ℕ → ℕ → ℕ → Type 0
-HasCrowd mode text n point needed = (m : Machine) × (us : List StackUnit) × IsInput text m us × IsCrowdOf mode m us n point needed
+HasCrowd mode text n point needed = (m : Machine) × (us : List StackUnit) × IsInput text m us
+    × IsCrowdOf mode m us n point needed
 
--- whatever codes the mode makes of the units, no point of them is crowded
+-- no point is crowded of the codes that the mode makes of the units; by `ModesMakeOneCode` it makes no others
 abbrev pub HaveRoom : Mode → Machine → List StackUnit → Type 0
-HaveRoom mode m us = (made : List PlainUnit) → AreCodesIn mode m us made → All (HasRoom m) made
+HaveRoom mode m us = (made : List PlainUnit) × AreCodesIn mode m us made × All (HasRoom m) made

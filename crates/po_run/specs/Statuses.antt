@@ -17,7 +17,7 @@ use Rattle.po_run.specs.declared.refusal.Refusal.TheVariants as refusal
 use Rattle.po_run.specs.Input.{input_in, IsInput}
 use Rattle.po_run.specs.declared.mode.Mode.{Mode}
 use Rattle.po_run.specs.Modes.{IsMode}
-use Rattle.po_run.specs.Output.{IsOutput, HasUnfit, HasCrowd, HaveRoom, Fits, naive_codes}
+use Rattle.po_run.specs.Output.{IsOutput, HasUnfit, HasCrowd, HaveRoom, AllFit, naive_codes}
 
 -- what compiling a text in a mode gives
 abbrev pub Compiles : Mode → List ℕ → Result (Vec ℕ Global) Refusal → Type 0
@@ -45,30 +45,39 @@ pub record ReadsWhole (old new : Option (List ℕ)) (text : List ℕ) : Type 0 w
   pub fits : length text ≤ 4194304
 
 -- the text was read to its end, and the sink took exactly its output
-abbrev pub OnDone : List (String Global) → Status → Option (List ℕ) → Option (List ℕ) → Option (List ℕ) → Option (List ℕ) → Type 0
-OnDone words status.Done old new kept_old kept_new = InMode words (λ mode. (text : List ℕ) × (out : List ℕ) × ReadsWhole old new text × IsOutput mode text out × (kept_new ≡ after_known kept_old out))
+abbrev pub OnDone : List (String Global) → Status
+    → Option (List ℕ) → Option (List ℕ) → Option (List ℕ) → Option (List ℕ) → Type 0
+OnDone words status.Done old new kept_old kept_new = InMode words (λ mode. (text : List ℕ) × (out : List ℕ)
+    × ReadsWhole old new text × IsOutput mode text out × (kept_new ≡ after_known kept_old out))
 OnDone words s old new kept_old kept_new = ⊤
 
 -- the first fault of the text, or the first byte past the limit of an input
 abbrev pub OnBadText : Status → Option (List ℕ) → Option (List ℕ) → Type 0
 OnBadText (status.BadText line col kind) old new =
     ((text : List ℕ) × ReadsWhole old new text × (input_in text ≡ Err (text_fault line col kind)))
-    ⊎ ((text : List ℕ) × (kind ≡ TooMany) × (4194304 < length text) × (old ≡ before_known text new) × ((line, col) ≡ place_behind (take 4194304 text)))
+    ⊎ ((text : List ℕ) × (kind ≡ TooMany) × (4194304 < length text) × (old ≡ before_known text new)
+    × ((line, col) ≡ place_behind (take 4194304 text)))
 OnBadText s old new = ⊤
 
 -- the first naive instruction that no entry fits
 abbrev pub OnUnrecognised : Status → Option (List ℕ) → Option (List ℕ) → Type 0
-OnUnrecognised (status.Unrecognised unit block index) old new = (text : List ℕ) × ReadsWhole old new text × HasUnfit text unit block index
+OnUnrecognised (status.Unrecognised unit block index) old new = (text : List ℕ) × ReadsWhole old new text
+    × HasUnfit text unit block index
 OnUnrecognised s old new = ⊤
 
 -- every naive instruction is recognised, and this is the first crowded point of the first unit that has one
 abbrev pub OnTooFew : List (String Global) → Status → Option (List ℕ) → Option (List ℕ) → Type 0
-OnTooFew words (status.TooFew unit point needed) old new = InMode words (λ mode. (text : List ℕ) × ReadsWhole old new text × HasCrowd mode text unit point needed)
+OnTooFew words (status.TooFew unit point needed) old new = InMode words (λ mode. (text : List ℕ)
+    × ReadsWhole old new text × HasCrowd mode text unit point needed)
 OnTooFew words s old new = ⊤
 
 -- the sink failed, and took so many bytes of the output
-abbrev pub OnWriteFault : List (String Global) → Status → Option (List ℕ) → Option (List ℕ) → ℕ → ℕ → Option (List ℕ) → Option (List ℕ) → Type 0
-OnWriteFault words (status.WriteFault written) old new before now kept_old kept_new = InMode words (λ mode. (text : List ℕ) × (out : List ℕ) × ReadsWhole old new text × IsOutput mode text out × (written ≤ length out) × (kept_new ≡ after_known kept_old (take written out))) × (before ≤ now) × Rose before now
+abbrev pub OnWriteFault : List (String Global) → Status
+    → Option (List ℕ) → Option (List ℕ) → ℕ → ℕ → Option (List ℕ) → Option (List ℕ) → Type 0
+OnWriteFault words (status.WriteFault written) old new before now kept_old kept_new =
+    InMode words (λ mode. (text : List ℕ) × (out : List ℕ) × ReadsWhole old new text × IsOutput mode text out
+    × (written ≤ length out) × (kept_new ≡ after_known kept_old (take written out)))
+    × (before ≤ now) × Rose before now
 OnWriteFault words s old new before now kept_old kept_new = ⊤
 
 -- the source failed
@@ -92,9 +101,12 @@ IsDoneOrMemory status.Done = ⊤
 IsDoneOrMemory status.OutOfMemory = ⊤
 IsDoneOrMemory s = ⊥
 
--- a text that has an output in the mode of the words compiles, unless memory is wanted, where neither source nor sink failed
+-- a text that has an output in the mode of the words compiles, unless memory is wanted, where neither source nor sink
+-- failed
 abbrev pub IsComplete : List (String Global) → Status → Option (List ℕ) → ℕ → ℕ → ℕ → ℕ → Type 0
-IsComplete words s left before now before_written now_written = (mode : Mode) (text : List ℕ) (m : Machine) (us : List StackUnit)
-    → IsMode mode words → left ≡ Some text → length text ≤ 4194304 → IsInput text m us → All (Fits m) (naive_codes us) → HaveRoom mode m us
+IsComplete words s left before now before_written now_written =
+    (mode : Mode) (text : List ℕ) (m : Machine) (us : List StackUnit)
+    → IsMode mode words → left ≡ Some text → length text ≤ 4194304 → IsInput text m us
+    → All (AllFit m) (naive_codes us) → HaveRoom mode m us
     → now ≡ before → before < 2 ^ 64 - 1 → now_written ≡ before_written → before_written < 2 ^ 64 - 1
     → IsDoneOrMemory s

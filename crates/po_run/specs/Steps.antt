@@ -12,7 +12,7 @@ use Rattle.po_run.specs.declared.refusal.Refusal.{Refusal}
 use Rattle.po_run.specs.declared.refusal.Refusal.TheVariants as refusal
 use Rattle.po_run.specs.Input.{Program}
 use Rattle.po_run.specs.declared.mode.Mode.{Mode}
-use Rattle.po_run.specs.Output.{FirstBad, Fits, HasRoom, IsShort, IsOutputOf, IsCrowdOf, naive_codes}
+use Rattle.po_run.specs.Output.{FirstBad, AllFit, HasRoom, IsShort, IsOutputOf, IsCrowdOf, naive_codes}
 
 abbrev pub units_of : List UnitCode → List PlainUnit
 units_of codes = map unit_of codes
@@ -29,9 +29,10 @@ ArePlaced m all = All (IsPlaced m) all
 
 -- every instruction fits, or one is the first that doesn't
 abbrev pub Checked : Machine → List PlainUnit → Result ⊤ Refusal → Type 0
-Checked m us (Ok done) = All (Fits m) us
+Checked m us (Ok done) = All (AllFit m) us
 Checked m us (Err (refusal.BadText line col kind)) = ⊥
-Checked m us (Err (refusal.Unrecognised unit block index)) = FirstBad (Fits m) (λ u. IsUnrecognised u.code m block index) us unit
+Checked m us (Err (refusal.Unrecognised unit block index)) =
+    FirstBad (AllFit m) (λ u. IsUnrecognised u.code m block index) us unit
 Checked m us (Err (refusal.TooFew unit point needed)) = ⊥
 Checked m us (Err refusal.OutOfMemory) = ⊤
 
@@ -47,7 +48,8 @@ Assigned m us (Err refusal.OutOfMemory) = ⊤
 abbrev pub Assembles : Mode → Program → Result (Vec ℕ Global) Refusal → Type 0
 Assembles mode p (Ok out) = IsOutputOf mode p.machine p.units out.items
 Assembles mode p (Err (refusal.BadText line col kind)) = ⊥
-Assembles mode p (Err (refusal.Unrecognised unit block index)) = FirstBad (Fits p.machine) (λ u. IsUnrecognised u.code p.machine block index) (naive_codes p.units) unit
+Assembles mode p (Err (refusal.Unrecognised unit block index)) =
+    FirstBad (AllFit p.machine) (λ u. IsUnrecognised u.code p.machine block index) (naive_codes p.units) unit
 Assembles mode p (Err (refusal.TooFew unit point needed)) = IsCrowdOf mode p.machine p.units unit point needed
 Assembles mode p (Err refusal.OutOfMemory) = ⊤
 

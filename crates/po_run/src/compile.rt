@@ -1,5 +1,5 @@
-//! From a text to its assembly: read, expanded, recognised, combined where the mode says so, placed, written. All units pass a step
-//! before the next one begins.
+//! From a text to its assembly: read, expanded, recognised, combined where the mode says so, placed, written. All units
+//! pass a step before the next one begins.
 
 ghost use Rattle.std.specs.Prelude.{◌≡◌, ◌≤◌, length};
 ghost use Rattle.po_run.specs.Statuses.{Compiles};

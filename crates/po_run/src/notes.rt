@@ -48,7 +48,8 @@ fn push_two<N: Sink>(
     between: &[u8],
     second: u32,
 ) -> Result<(), WriteFault>
-    ensures all { OnOk result (N.kept notes.new ≡ after_known (N.kept notes.old) (front.now ++ decimal first ++ between.now ++ decimal second)) }
+    ensures all { OnOk result (N.kept notes.new
+        ≡ after_known (N.kept notes.old) (front.now ++ decimal first ++ between.now ++ decimal second)) }
     ensures cause { WriteCause (N.faults notes.old) (N.faults notes.new) result }
 {
     push_number(notes, front, u64::from(first))?;
@@ -59,7 +60,8 @@ fn push_two<N: Sink>(
 #[tactic(auto, using(po_text::proofs::Known::after_two))]
 /// Writes the line of a fault in the text.
 fn push_fault<N: Sink>(notes: &mut N, line: u32, col: u32, kind: Kind) -> Result<(), WriteFault>
-    ensures all { OnOk result (N.kept notes.new ≡ after_known (N.kept notes.old) (note_line (Status.BadText line col kind))) }
+    ensures all { OnOk result (N.kept notes.new
+        ≡ after_known (N.kept notes.old) (note_line (Status.BadText line col kind))) }
     ensures cause { WriteCause (N.faults notes.old) (N.faults notes.new) result }
 {
     push_two(notes, b"po: line ", line, b", column ", col)?;
@@ -77,7 +79,8 @@ fn push_unrecognised<N: Sink>(
     block: u32,
     index: u32,
 ) -> Result<(), WriteFault>
-    ensures all { OnOk result (N.kept notes.new ≡ after_known (N.kept notes.old) (note_line (Status.Unrecognised unit block index))) }
+    ensures all { OnOk result (N.kept notes.new
+        ≡ after_known (N.kept notes.old) (note_line (Status.Unrecognised unit block index))) }
     ensures cause { WriteCause (N.faults notes.old) (N.faults notes.new) result }
 {
     push_two(notes, b"po: unit ", unit, b", block ", block)?;
@@ -94,7 +97,8 @@ fn push_crowded<N: Sink>(
     point: u32,
     needed: u32,
 ) -> Result<(), WriteFault>
-    ensures all { OnOk result (N.kept notes.new ≡ after_known (N.kept notes.old) (note_line (Status.TooFew unit point needed))) }
+    ensures all { OnOk result (N.kept notes.new
+        ≡ after_known (N.kept notes.old) (note_line (Status.TooFew unit point needed))) }
     ensures cause { WriteCause (N.faults notes.old) (N.faults notes.new) result }
 {
     push_two(notes, b"po: unit ", unit, b", point ", point)?;
@@ -106,7 +110,8 @@ fn push_crowded<N: Sink>(
 #[tactic(auto, using(po_text::proofs::Known::after_two))]
 /// Writes the line of a sink that failed.
 fn push_written<N: Sink>(notes: &mut N, written: u64) -> Result<(), WriteFault>
-    ensures all { OnOk result (N.kept notes.new ≡ after_known (N.kept notes.old) (note_line (Status.WriteFault written))) }
+    ensures all { OnOk result (N.kept notes.new
+        ≡ after_known (N.kept notes.old) (note_line (Status.WriteFault written))) }
     ensures cause { WriteCause (N.faults notes.old) (N.faults notes.new) result }
 {
     push_number(notes, b"po: write failed after ", written)?;

@@ -47,7 +47,8 @@ fn run<S: Source, K: Sink>(alloc: Global, words: &[String], source: &mut S, sink
     ensures bad_text { OnBadText result (S.left source.old) (S.left source.new) }
     ensures unrecognised { OnUnrecognised result (S.left source.old) (S.left source.new) }
     ensures too_few { OnTooFew words.now result (S.left source.old) (S.left source.new) }
-    ensures write_fault { OnWriteFault words.now result (S.left source.old) (S.left source.new) (K.faults sink.old) (K.faults sink.new) (K.kept sink.old) (K.kept sink.new) }
+    ensures write_fault { OnWriteFault words.now result (S.left source.old) (S.left source.new)
+        (K.faults sink.old) (K.faults sink.new) (K.kept sink.old) (K.kept sink.new) }
     ensures written { WritesNothing result (K.faults sink.old) (K.faults sink.new) (K.kept sink.old) (K.kept sink.new) }
 {
     let Some(mode) = mode_of(words) else {
@@ -87,8 +88,8 @@ pub fn po_serial<S: Source, K: Sink, N: Sink>(
     sink: &mut K,
     notes: &mut N,
 ) -> Status
-    // The source was read to its end, and what the sink keeps grew by exactly the output in the mode of the words, which runs as the
-    // naive code of each unit does.
+    // The source was read to its end, and what the sink keeps grew by exactly the output in the mode of the words, which
+    // runs as the naive code of each unit does.
     ensures done { OnDone words.now result (S.left source.old) (S.left source.new) (K.kept sink.old) (K.kept sink.new) }
 
     // Exactly where the words are none of a mode; then nothing is read.
@@ -108,14 +109,16 @@ pub fn po_serial<S: Source, K: Sink, N: Sink>(
     ensures too_few { OnTooFew words.now result (S.left source.old) (S.left source.new) }
 
     // Exactly where the sink's faults rose; what it keeps grew by the first `written` bytes of the output.
-    ensures write_fault { OnWriteFault words.now result (S.left source.old) (S.left source.new) (K.faults sink.old) (K.faults sink.new) (K.kept sink.old) (K.kept sink.new) }
+    ensures write_fault { OnWriteFault words.now result (S.left source.old) (S.left source.new)
+        (K.faults sink.old) (K.faults sink.new) (K.kept sink.old) (K.kept sink.new) }
 
     // After every answer but Done and WriteFault the sink has what it had.
     ensures written { WritesNothing result (K.faults sink.old) (K.faults sink.new) (K.kept sink.old) (K.kept sink.new) }
 
-    // Where the grammar holds, each naive instruction is recognised, no point of the code that the mode makes is crowded and no fault
-    // rose: Done, or memory was refused.
-    ensures complete { IsComplete words.now result (S.left source.old) (S.faults source.old) (S.faults source.new) (K.faults sink.old) (K.faults sink.new) }
+    // Where the grammar holds, each naive instruction is recognised, no point of the code that the mode makes is crowded
+    // and no fault rose: Done, or memory was refused.
+    ensures complete { IsComplete words.now result (S.left source.old)
+        (S.faults source.old) (S.faults source.new) (K.faults sink.old) (K.faults sink.new) }
 
     // Where the notes don't fail, they grow by exactly the line of the status.
     ensures notes { N.faults notes.new ≡ N.faults notes.old → N.faults notes.old < 2 ^ 64 - 1

@@ -29,7 +29,8 @@ fn slow_counted<L: Ledger>(
     requires name { ledger.name ≡ L.name }
     requires parts { ledger.parts ≡ L.parts }
     requires some { 0 < ledger.parts }
-    ensures { IfOk result (λ slowed. AllZip (IsCodeIn Slow machine.now) (units_of codes.items) (units_of slowed.items)) }
+    ensures { IfOk result (λ slowed.
+        AllZip (IsCodeIn Slow machine.now) (units_of codes.items) (units_of slowed.items)) }
 {
     let mut steps = Steps::<L>::new(ledger);
     let mut slowed = Vec::new(alloc);
@@ -47,7 +48,8 @@ fn slow_all(
 ) -> Result<Vec<UnitCode>, OutOfMemory>
     requires machine { IsMachine machine.now }
     requires formed { All IsUnitCode (units_of codes.items) }
-    ensures { IfOk result (λ slowed. AllZip (IsCodeIn Slow machine.now) (units_of codes.items) (units_of slowed.items)) }
+    ensures { IfOk result (λ slowed.
+        AllZip (IsCodeIn Slow machine.now) (units_of codes.items) (units_of slowed.items)) }
 {
     slow_counted::<Brand>(alloc, machine, codes, Blank::new(1))
 }
@@ -61,7 +63,8 @@ pub fn codes_in(
 ) -> Result<Vec<UnitCode>, OutOfMemory>
     requires machine { IsMachine machine.now }
     requires formed { All IsUnitCode (units_of codes.items) }
-    ensures made { IfOk result (λ made. AllZip (IsCodeIn mode machine.now) (units_of codes.items) (units_of made.items)) }
+    ensures made { IfOk result (λ made.
+        AllZip (IsCodeIn mode machine.now) (units_of codes.items) (units_of made.items)) }
     ensures count { IfOk result (λ made. length made.items ≡ length codes.items) }
     ensures formed { IfOk result (λ made. All IsUnitCode (units_of made.items)) }
 {

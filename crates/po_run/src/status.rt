@@ -16,8 +16,8 @@ pub enum Status {
     BadText { line: u32, col: u32, kind: Kind },
     /// No entry fits this naive instruction, which is the first such one. All three are counted from 0.
     Unrecognised { unit: u32, block: u32, index: u32 },
-    /// More values are needed at this point than the machine has registers: the first such point of the first such unit, both
-    /// counted from 0, and the number of values.
+    /// More values are needed at this point than the machine has registers: the first such point of the first such unit,
+    /// both counted from 0, and the number of values.
     TooFew { unit: u32, point: u32, needed: u32 },
     /// The sink failed when it had taken so many bytes of the output.
     WriteFault { written: u64 },

@@ -8,7 +8,10 @@ use Rattle.po_run.proofs.Slowed.{naive_stays, made_formed}
 use Rattle.po_run.proofs.slow.codes_in.Goals as goal
 
 pub returns-in-Naive-clause-made : goal.returns-in-Naive-clause-made
-returns-in-Naive-clause-made c = subst (λ (mode : Mode). AllZip (IsCodeIn mode c.args.machine.now) (units_of c.args.codes.items) (units_of c.args.codes.items)) (sym c.in-Naive.is) (naive_stays c.args.machine.now (units_of c.args.codes.items))
+returns-in-Naive-clause-made c = subst (λ (mode : Mode). AllZip (IsCodeIn mode c.args.machine.now)
+    (units_of c.args.codes.items) (units_of c.args.codes.items)) (sym c.in-Naive.is)
+    (naive_stays c.args.machine.now (units_of c.args.codes.items))
 
 pub returns-in_ok-slowed-in-Slow-clause-formed : goal.returns-in_ok-slowed-in-Slow-clause-formed
-returns-in_ok-slowed-in-Slow-clause-formed c = made_formed Slow c.args.machine.now (units_of c.args.codes.items) (units_of c.in_ok-slowed-in-Slow.slowed.items) c.requires.machine c.in_ok-slowed-in-Slow.ensures c.requires.formed
+returns-in_ok-slowed-in-Slow-clause-formed c = made_formed Slow c.args.machine.now (units_of c.args.codes.items)
+    (units_of c.in_ok-slowed-in-Slow.slowed.items) c.requires.machine c.in_ok-slowed-in-Slow.ensures c.requires.formed
