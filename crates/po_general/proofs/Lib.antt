@@ -1,0 +1,9 @@
+pub mod Filling
+pub mod Standing
+pub mod Fills
+pub mod Questions
+pub mod Rules
+pub mod Walk
+pub mod Own
+pub mod Filled
+pub mod Made

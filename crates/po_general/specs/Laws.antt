@@ -1,0 +1,38 @@
+-- What is promised of the rules of pairs.
+use Rattle.std.specs.Prelude.{◌≡◌, Bool, All}
+use Rattle.po_word.specs.Exprs.{Expr, Ask, HasHoles, OfEach}
+use Rattle.po_model.specs.declared.machine.Machine.{Machine}
+use Rattle.po_model.specs.Machines.{IsMachine}
+use Rattle.po_model.specs.Pairs.{PlainPair, WellFormedPair}
+use Rattle.po_model.specs.Holed.{PlainRule, PlainValues}
+use Rattle.po_model.specs.Put.{HasValues}
+use Rattle.po_model.specs.Shape.{pair_values}
+use Rattle.po_model.specs.Agrees.{Instance}
+use Rattle.po_model.specs.Generalised.{generalised}
+use Rattle.po_model.specs.Canonical.{Canonical}
+
+-- a pair is an instance of its rule, and the rule says what becomes of each instance, and is the rule of each
+pub record IsRuleOf (m : Machine) (p : PlainPair) (r : PlainRule) : Type 0 where
+  pub instance : Instance r p
+  pub canonical : Canonical m r
+
+abbrev pub RulesAreCanonical : Type 0
+RulesAreCanonical = (m : Machine) → IsMachine m → (p : PlainPair) → IsRuleOf m p (generalised m p)
+
+-- two canonical rules of a machine with an instance in common are one
+abbrev pub OneRule : Type 0
+OneRule = (m : Machine) (r s : PlainRule) → Canonical m r → Canonical m s → (p : PlainPair) → WellFormedPair p
+    → Instance r p → Instance s p → r ≡ s
+
+-- each hole of a question has its word
+abbrev pub HasWord : PlainValues → Ask Expr × Bool → Type 0
+HasWord v qa = OfEach (λ e. HasHoles e v.consts) qa.0
+
+-- each hole of a rule's result and questions has its value in the pair
+pub record IsFilledBy (r : PlainRule) (v : PlainValues) : Type 0 where
+  pub result : HasValues v r.result
+  pub asked : All (HasWord v) r.asked
+
+abbrev pub RulesAreFilled : Type 0
+RulesAreFilled = (m : Machine) → IsMachine m → (p : PlainPair) → WellFormedPair p
+    → IsFilledBy (generalised m p) (pair_values p)

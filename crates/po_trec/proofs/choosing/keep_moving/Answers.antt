@@ -1,0 +1,14 @@
+use Rattle.std.proofs.Common.{ap, ◌∙◌, rules, Bool, not}
+use Rattle.std.proofs.lemmas.Fn.{filter_same}
+use Rattle.po_model.specs.Joined.{is_idle}
+use Rattle.po_model.specs.Holed.{HoleMove, hole_move_of, hole_moves_of, shape_of}
+use Rattle.po_model.specs.Generalised.{hole_leaves}
+use Rattle.po_trec.proofs.Choices.{filter_moves}
+use Rattle.po_trec.proofs.choosing.keep_moving.Goals as goal
+
+pub returns : goal.returns
+returns c =
+    let test : HoleMove → Bool = λ m. not (is_idle hole_leaves m) in
+    ap hole_moves_of (filter_same _ (λ t. test (hole_move_of t)) _ (λ x b f' k. search rules) _ _
+    c.retain.ensures.filtered)
+    ∙ filter_moves test c.args.ts.now.items

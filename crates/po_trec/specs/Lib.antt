@@ -1,0 +1,4 @@
+pub mod Read
+pub mod Spots
+pub mod Order
+pub mod Joint
