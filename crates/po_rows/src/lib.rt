@@ -1,13 +1,17 @@
-//! Tests that cross crates, as tables: whole runs of the top call, each line an input with what the program must answer, what is
-//! live in small codes, and how many pairs the passes over a unit try.
+//! Tests that cross crates, as tables: whole runs of the top call, each line an input with what the program must answer,
+//! what is live in small codes, how many pairs the passes over a unit try, and what becomes of a branch, pair by pair.
 #![tactic(auto)]
 
+#[cfg(test)]
+mod branch;
 #[cfg(test)]
 mod liveness;
 #[cfg(test)]
 mod naive;
 #[cfg(test)]
 mod passes;
+#[cfg(test)]
+mod placing;
 #[cfg(test)]
 mod runs;
 #[cfg(test)]

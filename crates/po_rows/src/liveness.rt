@@ -1,7 +1,8 @@
 //! What is live after each instruction of small codes, by hand from the rules of liveness.
 ghost use Rattle.std.specs.Prelude.{◌≡◌, ◌↔◌, IsTrue, map, None};
 ghost use Rattle.po_term.specs.Moves.{moves_of, instrs_of};
-ghost use Rattle.po_model.specs.Blocks.{block_of, ending_of, EndsLast, IsCode};
+ghost use Rattle.po_model.specs.Blocks.{block_of, EndsLast, IsCode};
+ghost use Rattle.po_model.specs.Parts.{ending_of};
 
 use po_live::{Lives, live_after};
 use po_model::{Block, Code, Live};
@@ -10,8 +11,8 @@ use po_word::{OutOfMemory, Rel};
 use std::alloc::Global;
 use std::test::Fail;
 
-/// Codes by their blocks, in which a digit is the block's label and each letter an instruction (`transfer` says which); and what is
-/// live after each instruction.
+/// Codes by their blocks, in which a digit is the block's label and each letter an instruction (`transfer` says which);
+/// and what is live after each instruction.
 const CODES: [(&[&str], &str); 7] = [
     // a straight block
     (&["zuvr"], "v0 fp;v1 fp;fp rv;fp;"),

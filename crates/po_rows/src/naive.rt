@@ -1,12 +1,18 @@
 //! The mode `naive`. The lines of `TINY` are 1 to 30, so a unit behind it begins in line 31.
 
-use crate::runs::{GOOD, Streams, push_times, run, text_of};
+use crate::runs::{GOOD, Streams, push_times, run, run_words, text_of};
 use po_mdread::TINY;
 use po_run::Status;
 use po_text::Kind;
 use std::test::Fail;
 
 const HEAD: &str = "machine tiny\nframe fp\nresult rv\nargs a0 a1 a2 a3\nregs r0 r1 r2 r3\n";
+
+const SMALLEST: &str = "\
+insn %0 := #1 => li %0,#1\n\
+insn %0 := %1 => mov %0,%1\n\
+insn ret => ret\n\
+end\n";
 
 const SMALL: &str = "\
 insn %0 := #1 => li %0,#1\n\
@@ -59,8 +65,18 @@ end\n\
 
 const LOAD_AND_ADD: &str = "unit f\nadl 4\nlod\ncon 1\nadd\nret\nend\n";
 
+const FOUR_VALUES: &str = "unit f\ncon 1\ncon 2\ncon 3\ncon 4\nadd\nadd\nadd\nret\nend\n";
+
+const FOUR_VALUES_ASSEMBLY: &str =
+    "f:\n  li r0,1\n  li r1,2\n  li r2,3\n  li r3,4\n  add r2,r2,r3\n  add r1,r1,r2\n  add r0,r0,r1\n  mov rv,r0\n  ret\n";
+
 /// An input that compiles, and its assembly.
-const COMPILES: [([&str; 3], &str); 9] = [
+const COMPILES: [([&str; 3], &str); 11] = [
+    // One constant.
+    (
+        [HEAD, SMALLEST, "unit f\ncon 1\nret\nend\n"],
+        "f:\n  li r0,1\n  mov rv,r0\n  ret\n",
+    ),
     (
         [HEAD, SMALL, LOAD_AND_ADD],
         "f:\n  lea r0,4\n  ld r0,(r0)\n  li r1,1\n  add r0,r0,r1\n  mov rv,r0\n  ret\n",
@@ -69,14 +85,9 @@ const COMPILES: [([&str; 3], &str); 9] = [
         [TINY, "", LOAD_AND_ADD],
         "f:\n  lea r0,4\n  ld r0,(r0)\n  li r1,1\n  add r0,r0,r1\n  mov rv,r0\n  ret\n",
     ),
-    (
-        [
-            TINY,
-            "",
-            "unit f\ncon 1\ncon 2\ncon 3\ncon 4\nadd\nadd\nadd\nret\nend\n",
-        ],
-        "f:\n  li r0,1\n  li r1,2\n  li r2,3\n  li r3,4\n  add r2,r2,r3\n  add r1,r1,r2\n  add r0,r0,r1\n  mov rv,r0\n  ret\n",
-    ),
+    // As many values at once as there are registers.
+    ([HEAD, SMALL, FOUR_VALUES], FOUR_VALUES_ASSEMBLY),
+    ([TINY, "", FOUR_VALUES], FOUR_VALUES_ASSEMBLY),
     // Blocks and labels; a label is written behind its unit's name.
     (
         [
@@ -212,11 +223,14 @@ fn finds_faults(rt: HostRuntime) -> Result<(), Fail> {
     Ok(())
 }
 
+const USAGE: &str =
+    "po: usage: po naive, po slow, po opt [--workers N] [--learners N] [--stats], po gen --seed N --units N\n";
+
 const FIVE_VALUES: &str =
     "unit f\ncon 1\ncon 2\ncon 3\ncon 4\ncon 5\nadd\nadd\nadd\nadd\nret\nend\n";
 
 /// An input without a fault that doesn't compile: its status and what is told. Nothing is written.
-const REFUSED: [([&str; 3], Status, &str); 5] = [
+const REFUSED: [([&str; 3], Status, &str); 6] = [
     (
         [HEAD, SMALL_WITHOUT_ADD, LOAD_AND_ADD],
         Status::Unrecognised {
@@ -241,6 +255,15 @@ const REFUSED: [([&str; 3], Status, &str); 5] = [
     ),
     (
         [TINY, "", FIVE_VALUES],
+        Status::TooFew {
+            unit: 0,
+            point: 9,
+            needed: 5,
+        },
+        "po: unit 0, point 9: 5 registers needed\n",
+    ),
+    (
+        [HEAD, SMALL, FIVE_VALUES],
         Status::TooFew {
             unit: 0,
             point: 9,
@@ -330,6 +353,23 @@ fn fails(rt: HostRuntime) -> Result<(), Fail> {
         assert_eq!(rt; ended.status, status, "{word} {kept}");
         assert_eq!(rt; ended.sink.kept(), kept.as_bytes(), "{word} {kept}");
     }
+    Ok(())
+}
+
+/// No word at all. The source would fail where it was read.
+#[test]
+fn has_no_word(rt: HostRuntime) -> Result<(), Fail> {
+    let bad_source = Streams {
+        most: 100,
+        read_fails: 1,
+        write_fails: 0,
+        room: 1000,
+    };
+    let text = text_of(rt.alloc(), &[HEAD, SMALL, LOAD_AND_ADD])?;
+    let ended = run_words(rt.alloc(), &[], text, &bad_source)?;
+    assert_eq!(rt; ended.status, Status::Usage);
+    assert_eq!(rt; ended.sink.kept(), b"".as_slice());
+    assert_eq!(rt; ended.notes.kept(), USAGE.as_bytes());
     Ok(())
 }
 

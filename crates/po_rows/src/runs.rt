@@ -44,6 +44,15 @@ pub(crate) fn run(
     streams: &Streams,
 ) -> Result<Ended, Fail> {
     let words = vec![in alloc; String::from_str(alloc, word)?]?;
+    run_words(alloc, &words, text, streams)
+}
+
+pub(crate) fn run_words(
+    alloc: Global,
+    words: &[String],
+    text: Vec<u8>,
+    streams: &Streams,
+) -> Result<Ended, Fail> {
     let most = streams.most.max(1);
     let mut source = MemSource::new(text, most, vec![in alloc; streams.read_fails]?);
     let mut sink = MemSink::new(
@@ -53,7 +62,7 @@ pub(crate) fn run(
         streams.room,
     )?;
     let mut notes = MemSink::new(alloc, 100, Vec::new(alloc), 1000)?;
-    let status = po_serial(alloc, &words, &mut source, &mut sink, &mut notes);
+    let status = po_serial(alloc, words, &mut source, &mut sink, &mut notes);
     Ok(Ended {
         status,
         sink,

@@ -1,0 +1,185 @@
+//! Faults with their places, texts that end too early, limits, and printed units. Lines are counted from 31, as where a
+//! description of 30 lines stands before the units.
+use itoa::Buffer;
+use po_ir::{print_unit, printed_units_are_read, read_units, units_are_written};
+use po_text::{Kind, Spot, TextRefusal};
+use std::alloc::{AllocError, Global};
+use std::test::Fail;
+
+/// A loop over an array, a counter in memory and a call.
+const SUM: &str =
+    "unit sum\nadl 3\ncon 0\nsto\nadl 4\ncon 0\nsto\nlab top\nadl 3\nlod\nadl 1\nlod\nbge out\nadl 4\nadl 4\nlod\nadl 2\nlod\nadl 3\nlod\nadd\nlod\nadd\nsto\nadl 3\nadl 3\nlod\ncon 1\nadd\nsto\njmp top\nlab out\nadg calls\nadg calls\nlod\ncon 1\nadd\nsto\nadl 4\nlod\narg 0\ncall note 1\npop\nadl 4\nlod\nret\nend\n";
+
+/// The operations that the other one lacks.
+const OTHERS: &str =
+    "unit others\ncon -2147483648\ncon 2147483647\nsub\ncon -1\nmul\ndup\nand\ncon 2\nior\ncon 3\nxor\ncon 4\nshl\ncon 5\nshr\ncon 6\nsar\nneg\nnot\npop\nadl -1\ndup\nbeq a\nadl 1\ndup\nbne a\nadl 1\ndup\nblt a\nadl 1\ndup\nble a\nadl 1\ndup\nbgt a\nadl 1\ndup\nbltu a\nadl 1\ndup\nbgeu a\nlab a\njmp a\nend\n";
+
+const FAULTS: [(&str, u32, u32, Kind); 24] = [
+    ("unit f\ncon 1\nre\n", 33, 1, Kind::Word),
+    ("unit f\nlab a\nlab a\n", 33, 5, Kind::Duplicate),
+    ("unit f\nend\n", 32, 1, Kind::FallsOff),
+    ("unit f\ncon 1\njmp L\n", 33, 1, Kind::StackAtBoundary),
+    ("unit f\njmp L\nend\n", 32, 5, Kind::NoLabel),
+    ("unit f\ncall g 1\n", 32, 1, Kind::ArgMissing),
+    // 65 letters
+    (
+        "unit abcdefghabcdefghabcdefghabcdefghabcdefghabcdefghabcdefghabcdefghi\n",
+        31,
+        70,
+        Kind::TooMany,
+    ),
+    ("end\n", 31, 1, Kind::Word),
+    ("unit\n", 31, 5, Kind::Word),
+    ("unit a-b\n", 31, 6, Kind::Word),
+    ("unit f g\n", 31, 8, Kind::Word),
+    (
+        "unit f\nlab a\njmp a\nend\nunit f\n",
+        35,
+        6,
+        Kind::Duplicate,
+    ),
+    ("unit f\ncon 4294967296\n", 32, 5, Kind::Number),
+    ("unit f\ncon 12345678901\n", 32, 5, Kind::Word),
+    ("unit f\n\tcon\t1 2\n", 32, 8, Kind::Word),
+    ("unit f\ncon 1\narg 4\n", 33, 5, Kind::Number),
+    ("unit f\ncall g 5\n", 32, 8, Kind::Number),
+    ("unit f\ncon 1\nadd\n", 33, 1, Kind::StackUnderflow),
+    ("unit f\ncon 1\nlab a\n", 33, 1, Kind::StackAtBoundary),
+    // an argument of the block before
+    (
+        "unit f\ncon 1\narg 0\nlab a\ncall g 1\n",
+        35,
+        1,
+        Kind::ArgMissing,
+    ),
+    // the first of two jumps
+    (
+        "unit f\ncon 1\ndup\nbeq a\njmp b\nend\n",
+        34,
+        5,
+        Kind::NoLabel,
+    ),
+    // a label of another unit
+    (
+        "unit f\nlab a\njmp a\nend\nunit g\njmp a\nend\n",
+        36,
+        5,
+        Kind::NoLabel,
+    ),
+    // a further word, before the end that is reached
+    ("unit f\nend x\n", 32, 5, Kind::Word),
+    // a label that is there already, before the value that is left
+    ("unit f\nlab a\ncon 1\nlab a\n", 34, 5, Kind::Duplicate),
+];
+
+/// The place and kind of the first fault; none also where the text is longer than 4,194,304 bytes.
+fn fault(alloc: Global, text: &[u8]) -> Option<TextRefusal> {
+    if text.len() > 4194304 {
+        return None;
+    }
+    read_units(
+        alloc,
+        text,
+        Spot {
+            offset: 0,
+            line: 31,
+        },
+    )
+    .err()
+}
+
+fn at(line: u32, col: u32, kind: Kind) -> Option<TextRefusal> {
+    Some(TextRefusal::BadText { line, col, kind })
+}
+
+#[test]
+fn faults(rt: HostRuntime) {
+    for (text, line, column, kind) in FAULTS {
+        let found = fault(rt.alloc(), text.as_bytes());
+        assert_eq!(rt; found, at(line, column, kind), "{text}");
+    }
+}
+
+#[test]
+fn cut_texts(rt: HostRuntime) {
+    // Each text that ends behind one of the lines but the last one.
+    let text = SUM.as_bytes();
+    let mut line: u32 = 31;
+    for (i, byte) in text.iter().enumerate() {
+        if *byte == b'\n' {
+            line = line.wrapping_add(1);
+            let found = fault(rt.alloc(), &text[..=i]);
+            let wanted = if line == 78 {
+                None
+            } else {
+                at(line, 1, Kind::Word)
+            };
+            assert_eq!(rt; found, wanted);
+        }
+    }
+    assert_eq!(rt; line, 78);
+    assert_eq!(rt; fault(rt.alloc(), b""), None);
+}
+
+/// A text, and then another one so many times.
+fn repeated(alloc: Global, first: &str, more: &str, times: u32) -> Result<Vec<u8>, AllocError> {
+    let mut text = Vec::from_slice(alloc, first.as_bytes())?;
+    for _ in 0..times {
+        text.extend_from_slice(more.as_bytes())?;
+    }
+    Ok(text)
+}
+
+/// So many units.
+fn many(alloc: Global, count: u32) -> Result<Vec<u8>, AllocError> {
+    let mut text = Vec::new(alloc);
+    for n in 0..count {
+        text.extend_from_slice(b"unit u")?;
+        text.extend_from_slice(Buffer::new().format(n).as_bytes())?;
+        text.extend_from_slice(b"\nlab a\njmp a\nend\n")?;
+    }
+    Ok(text)
+}
+
+#[test]
+fn limits(rt: HostRuntime) -> Result<(), Fail> {
+    let alloc = rt.alloc();
+    let deep = repeated(alloc, "unit f\n", "con 1\n", 65)?;
+    assert_eq!(rt; fault(alloc, &deep), at(96, 1, Kind::TooMany));
+    let line = repeated(alloc, "//", "/", 4094)?;
+    assert_eq!(rt; fault(alloc, &line), None);
+    let line = repeated(alloc, "//", "/", 4095)?;
+    assert_eq!(rt; fault(alloc, &line), at(31, 4097, Kind::TooMany));
+    // 65,534 operations, and two more; then one more
+    let mut most = repeated(alloc, "unit f\n", "con 1\npop\n", 32767)?;
+    most.extend_from_slice(b"con 1\nret\n")?;
+    most.extend_from_slice(b"end\n")?;
+    assert_eq!(rt; fault(alloc, &most), None);
+    let more = repeated(alloc, "unit f\n", "con 1\npop\n", 32769)?;
+    assert_eq!(rt; fault(alloc, &more), at(65568, 1, Kind::TooMany));
+    Ok(())
+}
+
+#[test]
+fn too_many_units(rt: HostRuntime) -> Result<(), Fail> {
+    let alloc = rt.alloc();
+    let text = many(alloc, 65537)?;
+    assert_eq!(rt; fault(alloc, &text), at(262175, 1, Kind::TooMany));
+    Ok(())
+}
+
+#[test]
+fn printed_and_read(rt: HostRuntime) -> Result<(), Fail> {
+    let alloc = rt.alloc();
+    for text in [SUM, OTHERS] {
+        let units = read_units(alloc, text.as_bytes(), Spot { offset: 0, line: 1 })?;
+        assert_eq!(rt; units.len(), 1);
+        for unit in units.as_slice() {
+            let printed = print_unit(alloc, unit)?;
+            assert!(rt; printed.as_slice() == text.as_bytes());
+        }
+    }
+    units_are_written();
+    printed_units_are_read();
+    Ok(())
+}

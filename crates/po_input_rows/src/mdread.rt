@@ -1,0 +1,103 @@
+//! Descriptions that are read, printed, and refused.
+
+use po_mdread::{TINY, print_machine, read_machine};
+use po_text::{Kind, Spot, TextRefusal};
+use std::alloc::Global;
+use std::test::Fail;
+
+/// The machine's text printed again, and the place behind it; nothing where the text is refused.
+fn again(alloc: Global, text: &str) -> Result<Option<(Vec<u8>, Spot)>, Fail> {
+    if text.len() > 100000 {
+        return Ok(None);
+    }
+    match read_machine(alloc, text.as_bytes()) {
+        Ok((machine, at)) => Ok(Some((print_machine(alloc, &machine)?, at))),
+        Err(_) => Ok(None),
+    }
+}
+
+/// The place and the kind of the first fault.
+fn fault(alloc: Global, text: &str) -> Option<(u32, u32, Kind)> {
+    if text.len() > 100000 {
+        return None;
+    }
+    match read_machine(alloc, text.as_bytes()) {
+        Err(TextRefusal::BadText { line, col, kind }) => Some((line, col, kind)),
+        _ => None,
+    }
+}
+
+#[test]
+fn tiny_again(rt: HostRuntime) -> Result<(), Fail> {
+    match again(rt.alloc(), TINY)? {
+        Some((text, at)) => {
+            assert!(rt; text.as_slice() == TINY.as_bytes());
+            assert_eq!(rt; at.offset, TINY.len());
+            assert_eq!(rt; at.line, 31);
+        }
+        None => assert!(rt; false),
+    }
+    Ok(())
+}
+
+#[test]
+fn faults_of_descriptions(rt: HostRuntime) -> Result<(), Fail> {
+    let alloc = rt.alloc();
+    let head = "machine tiny\nframe fp\nresult rv\nargs a0 a1 a2 a3\n";
+    // What stands behind how many of the head lines, and the fault.
+    let cases = [
+        (0, "", (1, 1, Kind::Word)),
+        (0, "\n// x\nmachin tiny", (3, 1, Kind::Word)),
+        (0, "machine", (1, 8, Kind::Word)),
+        (0, "machine a-b", (1, 9, Kind::Word)),
+        (0, "machine a b", (1, 11, Kind::Word)),
+        // The text ends too early, with and without a line feed.
+        (1, "", (2, 1, Kind::Word)),
+        (1, "frame fp", (3, 1, Kind::Word)),
+        // The name is a byte too long.
+        (
+            1,
+            "frame abcdefghabcdefghabcdefghabcdefghabcdefghabcdefghabcdefghabcdefghi",
+            (2, 71, Kind::TooMany),
+        ),
+        (2, "result fp", (3, 8, Kind::Duplicate)),
+        (3, "args a0 a1 a2", (4, 14, Kind::Word)),
+        (3, "args a0 a1 a2 a3 a4", (4, 18, Kind::Word)),
+        (3, "args a0 rv a2 fp", (4, 9, Kind::Duplicate)),
+        // The form comes before the repeated name.
+        (3, "args a0 a0 a-2 a3", (4, 12, Kind::Word)),
+        (4, "regs", (5, 5, Kind::Word)),
+        (4, "regs r0 r1 r0", (5, 12, Kind::Duplicate)),
+        (4, "regs r0\ninsns ret => ret", (6, 1, Kind::Word)),
+        (4, "regs r0\nend x", (6, 5, Kind::Word)),
+        (4, "regs r0\n", (6, 1, Kind::Word)),
+        // The names r0 to r64: the last one is too many.
+        (
+            4,
+            "regs r0 r1 r2 r3 r4 r5 r6 r7 r8 r9 r10 r11 r12 r13 r14 r15 r16 r17 r18 r19 r20 r21 r22 r23 r24 r25 r26 r27 r28 r29 r30 r31 r32 r33 r34 r35 r36 r37 r38 r39 r40 r41 r42 r43 r44 r45 r46 r47 r48 r49 r50 r51 r52 r53 r54 r55 r56 r57 r58 r59 r60 r61 r62 r63 r64",
+            (5, 252, Kind::TooMany),
+        ),
+    ];
+    let ends = [0, 13, 22, 32, 49];
+    for (lines, rest, wanted) in cases {
+        let text = format!(in alloc; "{}{}", &head[..ends[lines]], rest)?;
+        assert_eq!(rt; fault(alloc, &text), Some(wanted), "{rest}");
+    }
+    Ok(())
+}
+
+#[test]
+fn too_many_entries(rt: HostRuntime) -> Result<(), Fail> {
+    let alloc = rt.alloc();
+    let mut text = String::from_str(
+        alloc,
+        "machine tiny\nframe fp\nresult rv\nargs a0 a1 a2 a3\nregs r0\n",
+    )?;
+    for _ in 0..512 {
+        text.push_str("insn ret => ret\n")?;
+    }
+    assert_eq!(rt; fault(alloc, &text), Some((518, 1, Kind::Word)));
+    text.push_str("insn x\n")?;
+    assert_eq!(rt; fault(alloc, &text), Some((518, 1, Kind::TooMany)));
+    Ok(())
+}
