@@ -68,7 +68,8 @@ not_either false true e = absurd (false≢true e)
 not_either false false e = refl
 
 -- a transfer of control sets nothing that passes it
-ending_sets : (s : State) (e : Ending ℕ Place Sym) (c : Control) (v : Var) → goes s (Some e) ≡ Some c → passes c v ≡ true → move_sets (Ends e) v ≡ false
+ending_sets : (s : State) (e : Ending ℕ Place Sym) (c : Control) (v : Var) → goes s (Some e) ≡ Some c → passes c v
+    ≡ true → move_sets (Ends e) v ≡ false
 ending_sets s (GoTo l) c v g p = refl
 ending_sets s (IfCc r l) c v g p = refl
 ending_sets s (IfTwo t u r l) c v g p = refl
@@ -78,22 +79,27 @@ ending_sets s (CallOf f n) (Called h ws) v g p = not_either (is_reg Rv v) (is_cc
 ending_sets s (CallOf f n) (Returned w) v g p = absurd (cc)
 ending_sets s Return c v g p = refl
 
-ending_alone : (s : State) (e : Ending ℕ Place Sym) (ms : PlainInstr) (c : Control) (v : Var) → ms ≡ [] → goes s (Some e) ≡ Some c → passes c v ≡ true → sets (Ends e ∷ ms) v ≡ false
+ending_alone : (s : State) (e : Ending ℕ Place Sym) (ms : PlainInstr) (c : Control) (v : Var) → ms ≡ []
+    → goes s (Some e) ≡ Some c → passes c v ≡ true → sets (Ends e ∷ ms) v ≡ false
 ending_alone s e ms c v n g p = rw n (neither (move_sets (Ends e) v) false (ending_sets s e c v g p) refl)
 
 -- what has no right side isn't set, but by a call
-pub register_unset : (s : State) (c : Control) (r : Register) (x : PlainInstr) → EndsOnce x → goes s (ending_of x) ≡ Some c → passes c (Reg r) ≡ true → right_at code_leaves (InReg r) x ≡ None → sets x (Reg r) ≡ false
+pub register_unset : (s : State) (c : Control) (r : Register) (x : PlainInstr) → EndsOnce x → goes s (ending_of x)
+    ≡ Some c → passes c (Reg r) ≡ true → right_at code_leaves (InReg r) x ≡ None → sets x (Reg r) ≡ false
 register_unset s c r [] n g p e = refl
 register_unset s c r (SetTo q t ∷ ms) n g p e = go (reg_eq r q) (reg_swap q r) e (register_unset s c r ms n g p)
   where
-    go : (b : Bool) → reg_eq q r ≡ b → (if b then Some t else right_at code_leaves (InReg r) ms) ≡ None → (right_at code_leaves (InReg r) ms ≡ None → sets ms (Reg r) ≡ false) → (reg_eq q r || sets ms (Reg r)) ≡ false
+    go : (b : Bool) → reg_eq q r ≡ b → (if b then Some t else right_at code_leaves (InReg r) ms) ≡ None
+        → (right_at code_leaves (InReg r) ms ≡ None → sets ms (Reg r) ≡ false) → (reg_eq q r || sets ms (Reg r))
+        ≡ false
     go true i k others = absurd (cc)
     go false i k others = neither (reg_eq q r) (sets ms (Reg r)) i (others k)
 register_unset s c r (CcTo t u ∷ ms) n g p e = register_unset s c r ms n g p e
 register_unset s c r (StoreTo t u ∷ ms) n g p e = register_unset s c r ms n g p e
 register_unset s c r (Ends f ∷ ms) n g p e = ending_alone s f ms c (Reg r) n g p
 
-pub cc_unset : (s : State) (c : Control) (x : PlainInstr) → EndsOnce x → goes s (ending_of x) ≡ Some c → passes c Cc ≡ true → cc_of x ≡ None → sets x Cc ≡ false
+pub cc_unset : (s : State) (c : Control) (x : PlainInstr) → EndsOnce x → goes s (ending_of x) ≡ Some c → passes c Cc
+    ≡ true → cc_of x ≡ None → sets x Cc ≡ false
 cc_unset s c [] n g p e = refl
 cc_unset s c (SetTo q t ∷ ms) n g p e = cc_unset s c ms n g p e
 cc_unset s c (CcTo t u ∷ ms) n g p e = absurd (cc)
@@ -109,13 +115,16 @@ module _ (code : List PlainBlock) where
   Comes e (Returned w) = ⊤
 
   -- a branch goes to its label or on
-  branch_comes : (b : Bool) (e : Option (Ending ℕ Place Sym)) (l : Label) (c : Control) → branch b l ≡ c → goes_on e ≡ true → target_by code e ≡ block_with code l → Comes e c
+  branch_comes : (b : Bool) (e : Option (Ending ℕ Place Sym)) (l : Label) (c : Control) → branch b l ≡ c
+      → goes_on e ≡ true → target_by code e ≡ block_with code l → Comes e c
   branch_comes true e l c i g t = subst (Comes e) i t
   branch_comes false e l c i g t = subst (Comes e) i g
 
-  cc_comes : (o : Option (ℕ × ℕ)) (r : Rel) (l : Label) (c : Control) → by_cc o r l ≡ Some c → Comes (Some (IfCc r l)) c
+  cc_comes : (o : Option (ℕ × ℕ)) (r : Rel) (l : Label) (c : Control) → by_cc o r l ≡ Some c → Comes (Some (IfCc r l))
+      c
   cc_comes None r l c g = absurd (cc)
-  cc_comes (Some p) r l c g = let i : branch (rel_value r p.0 p.1) l ≡ c = (cc) in branch_comes (rel_value r p.0 p.1) (Some (IfCc r l)) l c i refl refl
+  cc_comes (Some p) r l c g = let i : branch (rel_value r p.0 p.1) l ≡ c = (cc) in branch_comes (rel_value r p.0 p.1)
+      (Some (IfCc r l)) l c i refl refl
 
   -- control goes where the transfer that sent it may lead
   pub comes_of : (s : State) (e : Option (Ending ℕ Place Sym)) (c : Control) → goes s e ≡ Some c → Comes e c
@@ -123,6 +132,8 @@ module _ (code : List PlainBlock) where
   comes_of s (Some (GoTo l)) c g = let i : Jump l ≡ c = (cc) in subst (Comes (Some (GoTo l))) i refl
   comes_of s (Some (IfCc r l)) c g = cc_comes s.cc r l c g
   comes_of s (Some (IfTwo t u r l)) c g =
-      let i : branch (rel_value r (value s t) (value s u)) l ≡ c = (cc) in branch_comes (rel_value r (value s t) (value s u)) (Some (IfTwo t u r l)) l c i refl refl
-  comes_of s (Some (CallOf f n)) c g = let i : Called f (arguments s n 0) ≡ c = (cc) in subst (Comes (Some (CallOf f n))) i refl
+      let i : branch (rel_value r (value s t) (value s u)) l ≡ c = (cc) in
+      branch_comes (rel_value r (value s t) (value s u)) (Some (IfTwo t u r l)) l c i refl refl
+  comes_of s (Some (CallOf f n)) c g = let i : Called f (arguments s n 0) ≡ c = (cc) in
+      subst (Comes (Some (CallOf f n))) i refl
   comes_of s (Some Return) c g = let i : Returned (s.place (InReg Rv)) ≡ c = (cc) in subst (Comes (Some Return)) i tt

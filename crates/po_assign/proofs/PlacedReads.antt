@@ -1,5 +1,7 @@
--- A placed instruction reads and sets in its state what the instruction reads and sets in the other, where they agree on what it reads.
-use Rattle.std.proofs.Common.{◌≡◌, ℕ, zero, suc, ◌+◌, ◌<◌, Bool, true, false, List, [], ◌∷◌, refl, ◌∙◌, ap, arith, eq-eqb, inl, inr}
+-- A placed instruction reads and sets in its state what the instruction reads and sets in the other, where they agree
+-- on what it reads.
+use Rattle.std.proofs.Common.{◌≡◌, ℕ, zero, suc, ◌+◌, ◌<◌, Bool, true, false, List, [], ◌∷◌, refl, ◌∙◌, ap, arith}
+use Rattle.std.proofs.Common.{eq-eqb, inl, inr}
 use Rattle.std.specs.Prelude.{◌==◌, ◌||◌, if◌then◌else◌, Contains, Some, None, ⊤}
 use Rattle.std.proofs.lemmas.Bool.{le-leb, ne_eqb, cases_eq}
 use Rattle.po_word.specs.Words.{un_value, bin_value}
@@ -42,7 +44,8 @@ Separate at (Virt v) (Virt w) = at v ≡ at w → v ≡ w
 Separate at r q = ⊤
 
 -- of the first set of an instruction, and of those behind it
-apart_first : (at : ℕ → ℕ) (r q : Register) (u : PlainTerm) (ms : PlainInstr) → ApartFrom at r (written (SetTo q u ∷ ms)) → Separate at r q
+apart_first : (at : ℕ → ℕ) (r q : Register) (u : PlainTerm) (ms : PlainInstr)
+    → ApartFrom at r (written (SetTo q u ∷ ms)) → Separate at r q
 apart_first at (Virt v) (Virt w) u ms h = h w (0, omega arith, refl)
 apart_first at (Virt v) Fp u ms h = tt
 apart_first at (Virt v) Rv u ms h = tt
@@ -51,7 +54,8 @@ apart_first at Fp q u ms h = tt
 apart_first at Rv q u ms h = tt
 apart_first at (Arg k) q u ms h = tt
 
-apart_later : (at : ℕ → ℕ) (r q : Register) (u : PlainTerm) (ms : PlainInstr) → ApartFrom at r (written (SetTo q u ∷ ms)) → ApartFrom at r (written ms)
+apart_later : (at : ℕ → ℕ) (r q : Register) (u : PlainTerm) (ms : PlainInstr)
+    → ApartFrom at r (written (SetTo q u ∷ ms)) → ApartFrom at r (written ms)
 apart_later at (Virt v) (Virt w) u ms h = λ z c. h z (suc c.0, omega (arith, c.1), c.2)
 apart_later at (Virt v) Fp u ms h = h
 apart_later at (Virt v) Rv u ms h = h
@@ -117,72 +121,98 @@ module _ (at : ℕ → ℕ) (s t : State) where
   later_reads : (m : _) (ms : PlainInstr) → HoldsWhere (reads (m ∷ ms)) → HoldsWhere (reads ms)
   later_reads m ms h = holds_right (move_reads m) (reads ms) h
 
-  module _ (memory : (a : ℕ) → s.memory a ≡ t.memory a) (symbols : (y : Sym) → s.place (AtSym y) ≡ t.place (AtSym y)) where
-    -- a placed term has the term's word
-    pub value_placed : (x : PlainTerm) → HoldsWhere (term_reads x) → value s x ≡ value t (placed_word at x)
-    value_placed (Const c) h = refl
-    value_placed (Leaf (InReg r)) h = h (Reg r) (reg_same r)
-    value_placed (Leaf (AtSym y)) h = symbols y
-    value_placed (Read x) h = memory (value s x) ∙ ap (λ a. t.memory a) (value_placed x h)
-    value_placed (Unary o x) h = ap (λ a. un_value o a) (value_placed x h)
-    value_placed (Binary o x y) h =
-        ap (λ a. bin_value o a (value s y)) (value_placed x (holds_left (term_reads x) (term_reads y) h))
-        ∙ ap (λ b. bin_value o (value t (placed_word at x)) b) (value_placed y (holds_right (term_reads x) (term_reads y) h))
+  module _ (memory : (a : ℕ) → s.memory a ≡ t.memory a) (symbols : (y : Sym) → s.place (AtSym y) ≡ t.place (AtSym y))
+    where
+      -- a placed term has the term's word
+      pub value_placed : (x : PlainTerm) → HoldsWhere (term_reads x) → value s x ≡ value t (placed_word at x)
+      value_placed (Const c) h = refl
+      value_placed (Leaf (InReg r)) h = h (Reg r) (reg_same r)
+      value_placed (Leaf (AtSym y)) h = symbols y
+      value_placed (Read x) h = memory (value s x) ∙ ap (λ a. t.memory a) (value_placed x h)
+      value_placed (Unary o x) h = ap (λ a. un_value o a) (value_placed x h)
+      value_placed (Binary o x y) h =
+          ap (λ a. bin_value o a (value s y)) (value_placed x (holds_left (term_reads x) (term_reads y) h))
+          ∙ ap (λ b. bin_value o (value t (placed_word at x)) b)
+          (value_placed y (holds_right (term_reads x) (term_reads y) h))
 
-    -- the same word stands at each address behind both
-    pub memory_placed : (x : PlainInstr) → HoldsWhere (reads x) → (a : ℕ) → new_memory s (store_of x) a ≡ new_memory t (store_of (placed_instr at x)) a
-    memory_placed [] h a = memory a
-    memory_placed (SetTo r u ∷ ms) h a = memory_placed ms (later_reads (SetTo r u) ms h) a
-    memory_placed (CcTo u w ∷ ms) h a = memory_placed ms (later_reads (CcTo u w) ms h) a
-    memory_placed (StoreTo u w ∷ ms) h a =
-        let f = first_reads (StoreTo u w) ms h in
-        rw (value_placed u (holds_left (term_reads u) (term_reads w) f), value_placed w (holds_right (term_reads u) (term_reads w) f), memory a) refl
-    memory_placed (Ends e ∷ ms) h a = memory_placed ms (later_reads (Ends e) ms h) a
+      -- the same word stands at each address behind both
+      pub memory_placed : (x : PlainInstr) → HoldsWhere (reads x) → (a : ℕ) → new_memory s (store_of x) a ≡ new_memory t
+          (store_of (placed_instr at x)) a
+      memory_placed [] h a = memory a
+      memory_placed (SetTo r u ∷ ms) h a = memory_placed ms (later_reads (SetTo r u) ms h) a
+      memory_placed (CcTo u w ∷ ms) h a = memory_placed ms (later_reads (CcTo u w) ms h) a
+      memory_placed (StoreTo u w ∷ ms) h a =
+          let f = first_reads (StoreTo u w) ms h in
+          rw (
+            value_placed u (holds_left (term_reads u) (term_reads w) f),
+            value_placed w
+                (holds_right (term_reads u) (term_reads w) f),
+            memory a,
+          ) refl
+      memory_placed (Ends e ∷ ms) h a = memory_placed ms (later_reads (Ends e) ms h) a
 
-    -- cc is set alike, or is as it was
-    pub cc_placed : (x : PlainInstr) → HoldsWhere (reads x) → (cc_of x ≡ None → s.cc ≡ t.cc) → new_cc s (cc_of x) ≡ new_cc t (cc_of (placed_instr at x))
-    cc_placed [] h k = k refl
-    cc_placed (SetTo r u ∷ ms) h k = cc_placed ms (later_reads (SetTo r u) ms h) k
-    cc_placed (CcTo u w ∷ ms) h k =
-        let f = first_reads (CcTo u w) ms h in
-        rw (value_placed u (holds_left (term_reads u) (term_reads w) f), value_placed w (holds_right (term_reads u) (term_reads w) f)) refl
-    cc_placed (StoreTo u w ∷ ms) h k = cc_placed ms (later_reads (StoreTo u w) ms h) k
-    cc_placed (Ends e ∷ ms) h k = cc_placed ms (later_reads (Ends e) ms h) k
+      -- cc is set alike, or is as it was
+      pub cc_placed : (x : PlainInstr) → HoldsWhere (reads x) → (cc_of x ≡ None → s.cc ≡ t.cc) → new_cc s (cc_of x)
+          ≡ new_cc t (cc_of (placed_instr at x))
+      cc_placed [] h k = k refl
+      cc_placed (SetTo r u ∷ ms) h k = cc_placed ms (later_reads (SetTo r u) ms h) k
+      cc_placed (CcTo u w ∷ ms) h k =
+          let f = first_reads (CcTo u w) ms h in
+          rw (
+            value_placed u (holds_left (term_reads u) (term_reads w) f),
+            value_placed w
+                (holds_right (term_reads u) (term_reads w) f),
+          ) refl
+      cc_placed (StoreTo u w ∷ ms) h k = cc_placed ms (later_reads (StoreTo u w) ms h) k
+      cc_placed (Ends e ∷ ms) h k = cc_placed ms (later_reads (Ends e) ms h) k
 
-    -- argument registers are their own places
-    arguments_same : (n k : ℕ) → ((j : ℕ) → j < k + n → s.place (InReg (Arg j)) ≡ t.place (InReg (Arg j))) → arguments s n k ≡ arguments t n k
-    arguments_same zero k h = refl
-    arguments_same (suc n) k h = rw (h k (omega arith), arguments_same n (suc k) (λ j l. h j (omega arith))) refl
+      -- argument registers are their own places
+      arguments_same : (n k : ℕ) → ((j : ℕ) → j < k + n → s.place (InReg (Arg j)) ≡ t.place (InReg (Arg j)))
+          → arguments s n k ≡ arguments t n k
+      arguments_same zero k h = refl
+      arguments_same (suc n) k h = rw (h k (omega arith), arguments_same n (suc k) (λ j l. h j (omega arith))) refl
 
-    ending_placed : (e : Ending ℕ Place Sym) (ms : PlainInstr) → HoldsWhere (move_reads (Ends e)) → goes s (ending_of (Ends e ∷ ms)) ≡ goes t (ending_of (placed_instr at (Ends e ∷ ms)))
-    ending_placed (GoTo l) ms h = refl
-    ending_placed (IfCc r l) ms h = ap (λ c. by_cc c r l) (h Cc refl)
-    ending_placed (IfTwo u w r l) ms h = rw (value_placed u (holds_left (term_reads u) (term_reads w) h), value_placed w (holds_right (term_reads u) (term_reads w) h)) refl
-    ending_placed (CallOf f n) ms h =
-        ap (λ ws. Some (Called f ws)) (arguments_same n 0 (λ j l. holds_left (is_arg_of n) (is_reg Fp) h (Reg (Arg j)) (le-leb (suc j) n (omega arith))))
-    ending_placed Return ms h = ap (λ a. Some (Returned a)) (h (Reg Rv) refl)
+      ending_placed : (e : Ending ℕ Place Sym) (ms : PlainInstr) → HoldsWhere (move_reads (Ends e))
+          → goes s (ending_of (Ends e ∷ ms)) ≡ goes t (ending_of (placed_instr at (Ends e ∷ ms)))
+      ending_placed (GoTo l) ms h = refl
+      ending_placed (IfCc r l) ms h = ap (λ c. by_cc c r l) (h Cc refl)
+      ending_placed (IfTwo u w r l) ms h = rw (
+        value_placed u (holds_left (term_reads u) (term_reads w) h),
+        value_placed
+            w (holds_right (term_reads u) (term_reads w) h),
+      ) refl
+      ending_placed (CallOf f n) ms h =
+          ap (λ ws. Some (Called f ws)) (arguments_same n 0 (λ j l. holds_left (is_arg_of n) (is_reg Fp) h (Reg (Arg j))
+          (le-leb (suc j) n (omega arith))))
+      ending_placed Return ms h = ap (λ a. Some (Returned a)) (h (Reg Rv) refl)
 
-    -- both go on at the same place
-    pub goes_placed : (x : PlainInstr) → HoldsWhere (reads x) → goes s (ending_of x) ≡ goes t (ending_of (placed_instr at x))
-    goes_placed [] h = refl
-    goes_placed (SetTo r u ∷ ms) h = goes_placed ms (later_reads (SetTo r u) ms h)
-    goes_placed (CcTo u w ∷ ms) h = goes_placed ms (later_reads (CcTo u w) ms h)
-    goes_placed (StoreTo u w ∷ ms) h = goes_placed ms (later_reads (StoreTo u w) ms h)
-    goes_placed (Ends e ∷ ms) h = ending_placed e ms (first_reads (Ends e) ms h)
+      -- both go on at the same place
+      pub goes_placed : (x : PlainInstr) → HoldsWhere (reads x) → goes s (ending_of x) ≡ goes t
+          (ending_of (placed_instr at x))
+      goes_placed [] h = refl
+      goes_placed (SetTo r u ∷ ms) h = goes_placed ms (later_reads (SetTo r u) ms h)
+      goes_placed (CcTo u w ∷ ms) h = goes_placed ms (later_reads (CcTo u w) ms h)
+      goes_placed (StoreTo u w ∷ ms) h = goes_placed ms (later_reads (StoreTo u w) ms h)
+      goes_placed (Ends e ∷ ms) h = ending_placed e ms (first_reads (Ends e) ms h)
 
-    -- a register is set alike, where no other one that is set has its place, or is as it was
-    pub word_placed : (r : Register) (x : PlainInstr) (a b : ℕ) → HoldsWhere (reads x) → ApartFrom at r (written x) → (right_at code_leaves (InReg r) x ≡ None → a ≡ b)
-        → new_word s (right_at code_leaves (InReg r) x) a ≡ new_word t (right_at code_leaves (InReg (place_of at r)) (placed_instr at x)) b
-    word_placed r [] a b h apart k = k refl
-    word_placed r (SetTo q u ∷ ms) a b h apart k =
-        let others = word_placed r ms a b (later_reads (SetTo q u) ms h) (apart_later at r q u ms apart) in
-        rw (place_alike at r q (apart_first at r q u ms apart)) (go (reg_eq r q) k others)
-      where
-        go : (c : Bool) → ((if c then Some u else right_at code_leaves (InReg r) ms) ≡ None → a ≡ b)
-            → ((right_at code_leaves (InReg r) ms ≡ None → a ≡ b) → new_word s (right_at code_leaves (InReg r) ms) a ≡ new_word t (right_at code_leaves (InReg (place_of at r)) (placed_instr at ms)) b)
-            → new_word s (if c then Some u else right_at code_leaves (InReg r) ms) a ≡ new_word t (if c then Some (placed_word at u) else right_at code_leaves (InReg (place_of at r)) (placed_instr at ms)) b
-        go true k others = value_placed u (first_reads (SetTo q u) ms h)
-        go false k others = others k
-    word_placed r (CcTo u w ∷ ms) a b h apart k = word_placed r ms a b (later_reads (CcTo u w) ms h) apart k
-    word_placed r (StoreTo u w ∷ ms) a b h apart k = word_placed r ms a b (later_reads (StoreTo u w) ms h) apart k
-    word_placed r (Ends e ∷ ms) a b h apart k = word_placed r ms a b (later_reads (Ends e) ms h) apart k
+      -- a register is set alike, where no other one that is set has its place, or is as it was
+      pub word_placed : (r : Register) (x : PlainInstr) (a b : ℕ) → HoldsWhere (reads x) → ApartFrom at r (written x)
+          → (right_at code_leaves (InReg r) x ≡ None → a ≡ b)
+          → new_word s (right_at code_leaves (InReg r) x) a ≡ new_word t (right_at code_leaves (InReg (place_of at r))
+          (placed_instr at x)) b
+      word_placed r [] a b h apart k = k refl
+      word_placed r (SetTo q u ∷ ms) a b h apart k =
+          let others = word_placed r ms a b (later_reads (SetTo q u) ms h) (apart_later at r q u ms apart) in
+          rw (place_alike at r q (apart_first at r q u ms apart)) (go (reg_eq r q) k others)
+        where
+          go : (c : Bool) → ((if c then Some u else right_at code_leaves (InReg r) ms) ≡ None → a ≡ b)
+              → ((right_at code_leaves (InReg r) ms ≡ None → a ≡ b) → new_word s (right_at code_leaves (InReg r) ms) a
+              ≡ new_word t (right_at code_leaves (InReg (place_of at r)) (placed_instr at ms)) b)
+              → new_word s (if c then Some u else right_at code_leaves (InReg r) ms) a ≡ new_word t
+              (if c then Some (placed_word at u) else right_at code_leaves (InReg (place_of at r))
+              (placed_instr at ms)) b
+          go true k others = value_placed u (first_reads (SetTo q u) ms h)
+          go false k others = others k
+      word_placed r (CcTo u w ∷ ms) a b h apart k = word_placed r ms a b (later_reads (CcTo u w) ms h) apart k
+      word_placed r (StoreTo u w ∷ ms) a b h apart k = word_placed r ms a b (later_reads (StoreTo u w) ms h) apart k
+      word_placed r (Ends e ∷ ms) a b h apart k = word_placed r ms a b (later_reads (Ends e) ms h) apart k

@@ -1,5 +1,6 @@
 //! Placement of intervals: each, in order of start, in the lowest machine register whose last interval ended before.
-ghost use Rattle.std.specs.Prelude.{◌≡◌, ℕ, ◌+◌, ◌<◌, ◌≤◌, ◌^◌, ◌==◌, map, drop, length, count_by, IfOk, MatchOption, slice_index};
+ghost use Rattle.std.specs.Prelude.{◌≡◌, ℕ, ◌+◌, ◌<◌, ◌≤◌, ◌^◌, ◌==◌, map, drop, length, count_by, IfOk, MatchOption};
+ghost use Rattle.std.specs.Prelude.{slice_index};
 ghost use Rattle.po_assign.specs.Spans.{interval_from, Rising};
 ghost use Rattle.po_assign.specs.Places.{Places};
 
@@ -12,7 +13,8 @@ use std::alloc::Global;
 pub enum Placing {
     /// The number of each virtual register with the index of its machine register.
     Given(Vec<(u32, u32)>),
-    /// The first point that lies in more intervals than there are machine registers, and how many intervals it lies in.
+    /// The first point that lies in more intervals than there are machine registers, and how many intervals it lies
+    /// in.
     Crowded { point: u32, needed: u32 },
 }
 

@@ -37,7 +37,8 @@ fn push_span(
     t: &Transfer,
     spans: &mut Vec<Span>,
 ) -> Result<(), OutOfMemory>
-    ensures { OnOk result (spans.new.items ≡ spans.old.items ++ map (span_at (read_at last.now) start) (written (move_of t.now ∷ []))) }
+    ensures { OnOk result (spans.new.items ≡ spans.old.items ++ map (span_at (read_at last.now) start)
+        (written (move_of t.now ∷ []))) }
 {
     if let Transfer::Set(Reg::Virt(register), _) = t {
         spans.push(made_span(last, start, *register))?;
@@ -51,7 +52,8 @@ fn push_instr(
     xs: &[Transfer],
     spans: &mut Vec<Span>,
 ) -> Result<(), OutOfMemory>
-    ensures { OnOk result (spans.new.items ≡ spans.old.items ++ map (span_at (read_at last.now) start) (written (moves_of xs.now))) }
+    ensures { OnOk result (spans.new.items ≡ spans.old.items ++ map (span_at (read_at last.now) start)
+        (written (moves_of xs.now))) }
 {
     for t in xs {
         push_span(last, start, t, spans)?;
@@ -67,7 +69,8 @@ fn push_block(
     spans: &mut Vec<Span>,
 ) -> Result<(), OutOfMemory>
     requires { first + length xs.now < 2 ^ 29 }
-    ensures { OnOk result (spans.new.items ≡ spans.old.items ++ spans_from (read_at last.now) first (instrs_of xs.now)) }
+    ensures { OnOk result (spans.new.items ≡ spans.old.items ++ spans_from (read_at last.now) first
+        (instrs_of xs.now)) }
 {
     for (index, x) in xs.iter().enumerate() {
         push_instr(last, 2 * (first + index as u32) + 1, &x.xs, spans)?;

@@ -36,9 +36,9 @@ pub(crate) fn place_code(
 /// it has the first such point and the number of intervals there (docs/LANGUAGE.md, "Placement").
 ///
 /// The machine has at most 64 registers, and the code is as `expand` and the passes give it: its instructions are well
-/// formed, and a control transfer stands only in the last one of a block; each virtual register is set at most once, and
-/// read only by later instructions of the block that sets it; and there are fewer than 2^29 instructions and fewer than
-/// 2^32 blocks. Its labels and symbols need no names.
+/// formed, and a control transfer stands only in the last one of a block; each virtual register is set at most once,
+/// and read only by later instructions of the block that sets it; and there are fewer than 2^29 instructions and
+/// fewer than 2^32 blocks. Its labels and symbols need no names.
 pub fn assign(alloc: Global, m: &Machine, u: UnitCode) -> Result<Placed, AssignRefusal>
     requires code { IsPlaceable (code_of u.code) }
     requires few { length m.now.regs ≤ 64 }
@@ -55,7 +55,8 @@ pub fn assign(alloc: Global, m: &Machine, u: UnitCode) -> Result<Placed, AssignR
     }
 }
 
-/// A law, and no work: where no point is crowded, two registers whose intervals share a point get different machine registers.
+/// A law, and no work: where no point is crowded, two registers whose intervals share a point get different machine
+/// registers.
 pub fn never_shared()
     ensures { (n : ℕ) (code : List PlainInstr) → IsUncrowded n (intervals code) → AreApart (placement n code) }
 {}

@@ -1,5 +1,7 @@
 -- The printed parts of a term that have no parts of their own are read as themselves.
-use Rattle.std.proofs.Common.{append_assoc, ◌⊎◌, inl, inr, ◌≡◌, ℕ, ◌+◌, ◌-◌, ◌<◌, ◌≤◌, ◌^◌, ◌==◌, Bool, true, false, List, [], ◌∷◌, ◌++◌, length, take, drop, refl, sym, ap, ◌∙◌, subst, arith, zero, suc, Option, Some, None, Result, Ok, ℤ, pos, negsuc}
+use Rattle.std.proofs.Common.{append_assoc, ◌⊎◌, inl, inr, ◌≡◌, ℕ, ◌+◌, ◌-◌, ◌<◌, ◌≤◌, ◌^◌, ◌==◌, Bool, true, false}
+use Rattle.std.proofs.Common.{List, [], ◌∷◌, ◌++◌, length, take, drop, refl, sym, ap, ◌∙◌, subst, arith, zero, suc}
+use Rattle.std.proofs.Common.{Option, Some, None, Result, Ok, ℤ, pos, negsuc}
 use Rattle.std.specs.Prelude.{◌≤ℤ◌, int_le}
 use Rattle.std.specs.List.{list_all, prefix_len}
 use Rattle.std.specs.Int.{w32}
@@ -37,12 +39,14 @@ abbrev pub at : ℕ → List ℕ → Rest
 at column bytes = record { column = column; bytes = bytes }
 
 -- this value was read, these bytes are left, and these operands were seen
-pub record Again {T : Type 0} (m : Result (Read T) LineFault) (value : T) (bytes : List ℕ) (seen : Operands) : Type 0 where
-  pub column : ℕ
-  pub is : m ≡ Ok (record { value = value; rest = at column bytes; seen = seen })
+pub record Again {T : Type 0} (m : Result (Read T) LineFault) (value : T) (bytes : List ℕ) (seen : Operands) : Type 0
+  where
+    pub column : ℕ
+    pub is : m ≡ Ok (record { value = value; rest = at column bytes; seen = seen })
 
 -- bytes that pass, before bytes of which the first doesn't
-pub prefix_again : (p : ℕ → Bool) (w rest : List ℕ) → list_all p w ≡ true → prefix_len p rest ≡ 0 → prefix_len p (w ++ rest) ≡ length w
+pub prefix_again : (p : ℕ → Bool) (w rest : List ℕ) → list_all p w ≡ true → prefix_len p rest ≡ 0
+    → prefix_len p (w ++ rest) ≡ length w
 prefix_again p [] rest h e = e
 prefix_again p (b ∷ bs) rest h e =
     let both = and_parts (p b) (list_all p bs) h in
@@ -55,7 +59,8 @@ pub skip_none : (c : ℕ) (bytes : List ℕ) → prefix_len is_blank bytes ≡ 0
 unfolding skip_blanks
 skip_none c bytes e = rw e refl
 
-pub skip_one : (c : ℕ) (bytes : List ℕ) → prefix_len is_blank bytes ≡ 0 → skip_blanks (at c (32 ∷ bytes)) ≡ at (c + 1) bytes
+pub skip_one : (c : ℕ) (bytes : List ℕ) → prefix_len is_blank bytes ≡ 0 → skip_blanks (at c (32 ∷ bytes)) ≡ at (c + 1)
+    bytes
 unfolding skip_blanks
 skip_one c bytes e = rw e refl
 
@@ -74,9 +79,14 @@ behind_mark byte k rest h =
     let back : 48 + k - 48 ≡ k = omega arith in
     rw (same, digit_here k h) (ap Some back)
 
-pub operand_again : (o : OperandKind) (k c : ℕ) (rest : List ℕ) (seen : Operands) → k < 10 → may_be o (kind_of seen k) ≡ true → Again (operand o (at c (mark_of o ∷ (48 + k) ∷ rest)) seen) k rest (with_operand seen o k)
+pub operand_again : (o : OperandKind) (k c : ℕ) (rest : List ℕ) (seen : Operands) → k < 10 → may_be o (kind_of seen k)
+    ≡ true → Again (operand o (at c (mark_of o ∷ (48 + k) ∷ rest)) seen) k rest (with_operand seen o k)
 unfolding operand
-operand_again o k c rest seen h may = record { column = c + 2; is = rw (behind_mark (mark_of o) k rest h) (rw may refl) }
+operand_again o k c rest seen h may = record {
+  column = c + 2;
+  is = rw (behind_mark (mark_of o) k rest h)
+      (rw may refl);
+}
 
 -- what may stand behind a term: no byte of a name or a number, and no range
 pub record Stops (rest : List ℕ) : Type 0 where
@@ -99,15 +109,20 @@ small_neg n h = omega (arith, ints)
 no_minus : (d : ℕ) → is_digit d ≡ true → (d == 45) ≡ false
 no_minus d h = grind (arith, nat_tests)
 
-digits_length : (ds rest : List ℕ) → 0 < length ds → list_all is_digit ds ≡ true → prefix_len is_digit rest ≡ 0 → parts.number_length (ds ++ rest) ≡ length ds
+digits_length : (ds rest : List ℕ) → 0 < length ds → list_all is_digit ds ≡ true → prefix_len is_digit rest ≡ 0
+    → parts.number_length (ds ++ rest) ≡ length ds
 digits_length [] rest some h e = absurd (omega (arith, some))
-digits_length (d ∷ ds) rest some h e = rw (no_minus d (and_parts (is_digit d) (list_all is_digit ds) h).0) (prefix_again is_digit (d ∷ ds) rest h e)
+digits_length (d ∷ ds) rest some h e = rw (no_minus d (and_parts (is_digit d) (list_all is_digit ds) h).0)
+    (prefix_again is_digit (d ∷ ds) rest h e)
 
-minus_length : (ds rest : List ℕ) → list_all is_digit ds ≡ true → prefix_len is_digit rest ≡ 0 → parts.number_length (45 ∷ (ds ++ rest)) ≡ suc (length ds)
+minus_length : (ds rest : List ℕ) → list_all is_digit ds ≡ true → prefix_len is_digit rest ≡ 0 → parts.number_length
+    (45 ∷ (ds ++ rest)) ≡ suc (length ds)
 minus_length ds rest h e = let more = prefix_again is_digit ds rest h e in omega (arith, more)
 
-signed_length : (z : ℤ) (rest : List ℕ) → IsSigned z → prefix_len is_digit rest ≡ 0 → parts.number_length (signed_decimal z ++ rest) ≡ length (signed_decimal z)
-signed_length (pos n) rest h e = let small = small_pos n h.high in digits_length (decimal n) rest (decimal_some n small) (decimal_digits n small) e
+signed_length : (z : ℤ) (rest : List ℕ) → IsSigned z → prefix_len is_digit rest ≡ 0 → parts.number_length
+    (signed_decimal z ++ rest) ≡ length (signed_decimal z)
+signed_length (pos n) rest h e = let small = small_pos n h.high in
+    digits_length (decimal n) rest (decimal_some n small) (decimal_digits n small) e
 signed_length (negsuc n) rest h e = minus_length (decimal (suc n)) rest (decimal_digits (suc n) (small_neg n h.low)) e
 
 -- how a number begins
@@ -119,10 +134,16 @@ pub record NumberFront (w : List ℕ) : Type 0 where
 
 digits_front : (ds : List ℕ) → 0 < length ds → list_all is_digit ds ≡ true → NumberFront ds
 digits_front [] some h = absurd (omega (arith, some))
-digits_front (d ∷ ds) some h = record { first = d; others = ds; is = refl; begins = inr ((and_parts (is_digit d) (list_all is_digit ds) h).0) }
+digits_front (d ∷ ds) some h = record {
+  first = d;
+  others = ds;
+  is = refl;
+  begins = inr ((and_parts (is_digit d) (list_all is_digit ds) h).0);
+}
 
 pub number_front : (z : ℤ) → IsSigned z → NumberFront (signed_decimal z)
-number_front (pos n) h = let small = small_pos n h.high in digits_front (decimal n) (decimal_some n small) (decimal_digits n small)
+number_front (pos n) h = let small = small_pos n h.high in digits_front (decimal n) (decimal_some n small)
+    (decimal_digits n small)
 number_front (negsuc n) h = record { first = 45; others = decimal (suc n); is = refl; begins = inl refl }
 
 not_blank : (b : ℕ) → (b ≡ 45) ⊎ (is_digit b ≡ true) → is_blank b ≡ false
@@ -130,27 +151,34 @@ not_blank b (inl e) = grind (arith, nat_tests)
 not_blank b (inr e) = grind (arith, nat_tests)
 
 front_solid : (w rest : List ℕ) → NumberFront w → prefix_len is_blank (w ++ rest) ≡ 0
-front_solid w rest f = subst (λ (v : List ℕ). prefix_len is_blank (v ++ rest) ≡ 0) (sym f.is) (rw (not_blank f.first f.begins) refl)
+front_solid w rest f = subst (λ (v : List ℕ). prefix_len is_blank (v ++ rest) ≡ 0) (sym f.is)
+    (rw (not_blank f.first f.begins) refl)
 
 pub number_solid : (z : ℤ) (rest : List ℕ) → IsSigned z → prefix_len is_blank (signed_decimal z ++ rest) ≡ 0
 number_solid z rest h = front_solid (signed_decimal z) rest (number_front z h)
 
-number_bytes : (c : ℕ) (w rest : List ℕ) (z : ℤ) → NumberFront w → IsSigned z → w ≡ signed_decimal z → parts.number_with (at c (w ++ rest)) (length w) (w ++ rest) ≡ Ok z
+number_bytes : (c : ℕ) (w rest : List ℕ) (z : ℤ) → NumberFront w → IsSigned z → w ≡ signed_decimal z
+    → parts.number_with (at c (w ++ rest)) (length w) (w ++ rest) ≡ Ok z
 number_bytes c [] rest z f h e = absurd (cc (f.is))
-number_bytes c (b ∷ bs) rest z f h e = signed_number_again z (record { column = c; bytes = take (length (b ∷ bs)) (b ∷ bs ++ rest) }) h.low h.high (take-append_seam (b ∷ bs) rest ∙ e)
+number_bytes c (b ∷ bs) rest z f h e = signed_number_again z
+    (record { column = c; bytes = take (length (b ∷ bs)) (b ∷ bs ++ rest) }) h.low h.high
+    (take-append_seam (b ∷ bs) rest ∙ e)
 
-pub number_again : (z : ℤ) (c : ℕ) (rest : List ℕ) (seen : Operands) → IsSigned z → prefix_len is_digit rest ≡ 0 → Again (parts.number (at c (signed_decimal z ++ rest)) seen) z rest seen
+pub number_again : (z : ℤ) (c : ℕ) (rest : List ℕ) (seen : Operands) → IsSigned z → prefix_len is_digit rest ≡ 0
+    → Again (parts.number (at c (signed_decimal z ++ rest)) seen) z rest seen
 unfolding parts.number parts.number_at
 number_again z c rest seen h e =
     let w : List ℕ = signed_decimal z in
     let long = signed_length z rest h e in
     let got = number_bytes c (signed_decimal z) rest z (number_front z h) h refl in
-    let left : drop (length (signed_decimal z)) (signed_decimal z ++ rest) ≡ rest = drop-append_seam (signed_decimal z) rest in
+    let left : drop (length (signed_decimal z)) (signed_decimal z ++ rest) ≡ rest =
+    drop-append_seam (signed_decimal z) rest in
     record { column = c + length (signed_decimal z); is = rw (long, got, left) refl }
 
 -- registers
 
-fixed_named : (x : Reg) (w : List ℕ) (c : ℕ) (rest : List ℕ) (seen : Operands) → list_all is_name_byte w ≡ true → prefix_len is_name_byte rest ≡ 0 → parts.fixed_of w ≡ Some x
+fixed_named : (x : Reg) (w : List ℕ) (c : ℕ) (rest : List ℕ) (seen : Operands) → list_all is_name_byte w ≡ true
+    → prefix_len is_name_byte rest ≡ 0 → parts.fixed_of w ≡ Some x
     → Again (parts.fixed_register (at c (w ++ rest)) seen) (Fixed x) rest seen
 unfolding parts.fixed_register
 fixed_named x w c rest seen h e is =
@@ -168,7 +196,8 @@ pub fixed_name : (x : Reg) → IsFixed x → IsNameOf x (reg_text x)
 fixed_name (Virt n) h = absurd h
 fixed_name Fp h = record { name = refl; is = refl }
 fixed_name Rv h = record { name = refl; is = refl }
-fixed_name (Arg n) h = subst (λ (w : List ℕ). IsNameOf (Arg n) (97 ∷ 114 ∷ 103 ∷ w)) (sym (decimal_digit n (omega (arith, h)))) (arg_name n h)
+fixed_name (Arg n) h = subst (λ (w : List ℕ). IsNameOf (Arg n) (97 ∷ 114 ∷ 103 ∷ w))
+    (sym (decimal_digit n (omega (arith, h)))) (arg_name n h)
   where
     arg_name : (n : ℕ) → n ≤ 3 → IsNameOf (Arg n) (97 ∷ 114 ∷ 103 ∷ (48 + n) ∷ [])
     arg_name zero h = record { name = refl; is = refl }
@@ -177,12 +206,15 @@ fixed_name (Arg n) h = subst (λ (w : List ℕ). IsNameOf (Arg n) (97 ∷ 114 �
     arg_name (suc (suc (suc zero))) h = record { name = refl; is = refl }
     arg_name (suc (suc (suc (suc n)))) h = absurd (omega (arith, h))
 
-pub fixed_again : (x : Reg) (c : ℕ) (rest : List ℕ) (seen : Operands) → IsFixed x → prefix_len is_name_byte rest ≡ 0 → Again (parts.fixed_register (at c (reg_text x ++ rest)) seen) (Fixed x) rest seen
+pub fixed_again : (x : Reg) (c : ℕ) (rest : List ℕ) (seen : Operands) → IsFixed x → prefix_len is_name_byte rest ≡ 0
+    → Again (parts.fixed_register (at c (reg_text x ++ rest)) seen) (Fixed x) rest seen
 fixed_again x c rest seen h e = let name = fixed_name x h in fixed_named x (reg_text x) c rest seen name.name e name.is
 
-pub any_again : (k c : ℕ) (rest : List ℕ) (seen : Operands) → k < 10 → MayStand seen (place k OfReg false) → Again (parts.any_register (at c (37 ∷ (48 + k) ∷ rest)) seen) (Any k) rest (with_operand seen Register k)
+pub any_again : (k c : ℕ) (rest : List ℕ) (seen : Operands) → k < 10 → MayStand seen (place k OfReg false)
+    → Again (parts.any_register (at c (37 ∷ (48 + k) ∷ rest)) seen) (Any k) rest (with_operand seen Register k)
 unfolding parts.any_register
-any_again k c rest seen h may = let got = operand_again Register k c rest seen h may.may in let is = got.is in record { column = got.column; is = rw is refl }
+any_again k c rest seen h may = let got = operand_again Register k c rest seen h may.may in let is = got.is in
+    record { column = got.column; is = rw is refl }
 
 -- constants
 
@@ -196,7 +228,8 @@ abbrev bounds : ℤ → ℤ → Bounds
 bounds low high = record { lo = low; hi = high }
 
 range_again : (low high : ℤ) (c : ℕ) (rest : List ℕ) (seen : Operands) → IsRange (bounds low high)
-    → Again (parts.range (at c (91 ∷ (signed_decimal low ++ 44 ∷ (signed_decimal high ++ 93 ∷ rest)))) seen) (Some (bounds low high)) rest seen
+    → Again (parts.range (at c (91 ∷ (signed_decimal low ++ 44 ∷ (signed_decimal high ++ 93 ∷ rest)))) seen)
+    (Some (bounds low high)) rest seen
 unfolding parts.range
 range_again low high c rest seen h =
     let from : negsuc 2147483647 ≤ℤ low = le_from (negsuc 2147483647) low h.from in
@@ -207,7 +240,8 @@ range_again low high c rest seen h =
     let highs : IsSigned high = record { low = le_through (negsuc 2147483647) low high from order; high = to } in
     let behind_high : List ℕ = 93 ∷ rest in
     let opened = mark_again 91 c (signed_decimal low ++ 44 ∷ (signed_decimal high ++ 93 ∷ rest)) in
-    let a = skip_none (c + 1) (signed_decimal low ++ 44 ∷ (signed_decimal high ++ 93 ∷ rest)) (number_solid low (44 ∷ (signed_decimal high ++ 93 ∷ rest)) lows) in
+    let a = skip_none (c + 1) (signed_decimal low ++ 44 ∷ (signed_decimal high ++ 93 ∷ rest))
+    (number_solid low (44 ∷ (signed_decimal high ++ 93 ∷ rest)) lows) in
     let one = number_again low (c + 1 + 0) (44 ∷ (signed_decimal high ++ 93 ∷ rest)) seen lows refl in
     let first = one.is in
     let b = skip_none one.column (44 ∷ (signed_decimal high ++ 93 ∷ rest)) refl in
@@ -220,30 +254,38 @@ range_again low high c rest seen h =
     record { column = two.column + 0 + 1; is = rw (opened, a, first, b, comma, d, second, ordered, e, close) refl }
 
 -- the range behind an operand
-range_behind_again : (range : Option Bounds) (new : Bool) (column c : ℕ) (rest : List ℕ) (seen : Operands) → HasRange range → (has_range range ≡ true → new ≡ true) → Stops rest
+range_behind_again : (range : Option Bounds) (new : Bool) (column c : ℕ) (rest : List ℕ) (seen : Operands)
+    → HasRange range → (has_range range ≡ true → new ≡ true) → Stops rest
     → Again (parts.range_behind column new (at c (range_text range ++ rest)) seen) range rest seen
 unfolding parts.range_behind skip_blanks
-range_behind_again None new column c rest seen h n stops = let plain = stops.plain in record { column = c; is = rw plain refl }
+range_behind_again None new column c rest seen h n stops = let plain = stops.plain in
+    record { column = c; is = rw plain refl }
 range_behind_again (Some ends) new column c rest seen h n stops =
     let got = range_again ends.lo ends.hi (c + 0) rest seen h in
     let is = got.is in
     let yes : new ≡ true = n refl in
-    let bytes : range_text (Some ends) ++ rest ≡ 91 ∷ (signed_decimal ends.lo ++ 44 ∷ (signed_decimal ends.hi ++ 93 ∷ rest)) = simp append_assoc in
+    let bytes : range_text (Some ends) ++ rest ≡ 91 ∷ (signed_decimal ends.lo
+    ++ 44 ∷ (signed_decimal ends.hi ++ 93 ∷ rest)) = simp append_assoc in
     record { column = got.column; is = rw (bytes, yes) (rw is refl) }
 
-pub constant_again : (k : ℕ) (range : Option Bounds) (c : ℕ) (rest : List ℕ) (seen : Operands) → k < 10 → HasRange range → MayStand seen (place k OfNum (has_range range)) → Stops rest
-    → Again (parts.constant (at c (35 ∷ (48 + k) ∷ (range_text range ++ rest))) seen) (pat.Const k range) rest (with_operand seen Constant k)
+pub constant_again : (k : ℕ) (range : Option Bounds) (c : ℕ) (rest : List ℕ) (seen : Operands) → k < 10
+    → HasRange range → MayStand seen (place k OfNum (has_range range)) → Stops rest
+    → Again (parts.constant (at c (35 ∷ (48 + k) ∷ (range_text range ++ rest))) seen) (pat.Const k range) rest
+    (with_operand seen Constant k)
 unfolding parts.constant
 constant_again k range c rest seen h r may stops =
     let one = operand_again Constant k c (range_text range ++ rest) seen h may.may in
     let first = one.is in
-    let two = range_behind_again range (is_new (kind_of seen k)) c one.column rest (with_operand seen Constant k) r may.new stops in
+    let two = range_behind_again range (is_new (kind_of seen k)) c one.column rest (with_operand seen Constant k) r
+    may.new stops in
     let second = two.is in
     record { column = two.column; is = rw (first, second) refl }
 
-pub symbol_again : (k c : ℕ) (rest : List ℕ) (seen : Operands) → k < 10 → MayStand seen (place k OfSym false) → Again (parts.symbol_address (at c (38 ∷ (48 + k) ∷ rest)) seen) (pat.Addr k) rest (with_operand seen Symbol k)
+pub symbol_again : (k c : ℕ) (rest : List ℕ) (seen : Operands) → k < 10 → MayStand seen (place k OfSym false)
+    → Again (parts.symbol_address (at c (38 ∷ (48 + k) ∷ rest)) seen) (pat.Addr k) rest (with_operand seen Symbol k)
 unfolding parts.symbol_address
-symbol_again k c rest seen h may = let got = operand_again Symbol k c rest seen h may.may in let is = got.is in record { column = got.column; is = rw is refl }
+symbol_again k c rest seen h may = let got = operand_again Symbol k c rest seen h may.may in let is = got.is in
+    record { column = got.column; is = rw is refl }
 
 pub word_signed : (n : ℕ) → n < 2 ^ 32 → IsSigned (signed n)
 word_signed n h = record { low = omega (arith, ints); high = omega (arith, ints) }
@@ -251,7 +293,8 @@ word_signed n h = record { low = omega (arith, ints); high = omega (arith, ints)
 pub signed_front : (n : ℕ) → n < 2 ^ 32 → NumberFront (const_text n)
 signed_front n h = number_front (signed n) (word_signed n h)
 
-pub numeral_again : (n c : ℕ) (rest : List ℕ) (seen : Operands) → n < 2 ^ 32 → Stops rest → Again (parts.numeral (at c (const_text n ++ rest)) seen) (pat.Num n) rest seen
+pub numeral_again : (n c : ℕ) (rest : List ℕ) (seen : Operands) → n < 2 ^ 32 → Stops rest
+    → Again (parts.numeral (at c (const_text n ++ rest)) seen) (pat.Num n) rest seen
 unfolding parts.numeral
 numeral_again n c rest seen h stops =
     let got = number_again (signed n) c rest seen (word_signed n h) stops.digit in

@@ -1,5 +1,7 @@
 -- The printed mark and template of an entry are read as themselves.
-use Rattle.std.proofs.Common.{◌≡◌, ◌≢◌, ℕ, ◌+◌, ◌-◌, ◌<◌, ◌≤◌, ◌==◌, Bool, true, false, nat_le, List, [], ◌∷◌, ◌++◌, length, append_assoc, append-nil, get_or, map, All, codes, refl, sym, ap, ◌∙◌, subst, arith, zero, suc, Some, None, Result, Ok}
+use Rattle.std.proofs.Common.{◌≡◌, ◌≢◌, ℕ, ◌+◌, ◌-◌, ◌<◌, ◌≤◌, ◌==◌, Bool, true, false, nat_le, List, [], ◌∷◌, ◌++◌}
+use Rattle.std.proofs.Common.{length, append_assoc, append-nil, get_or, map, All, codes, refl, sym, ap, ◌∙◌, subst}
+use Rattle.std.proofs.Common.{arith, zero, suc, Some, None, Result, Ok}
 use Rattle.std.specs.List.{list_any}
 use Rattle.std.proofs.lemmas.Bool.Decides.{nat_tests}
 use Rattle.std.proofs.lemmas.Fmt.{decimal_digit}
@@ -9,7 +11,8 @@ use Rattle.po_lines.specs.Faults.{◌>>=◌}
 use Rattle.po_model.specs.declared.machine.Piece.{Piece}
 use Rattle.po_model.specs.declared.machine.Piece.TheVariants as piece
 use Rattle.po_model.specs.Patterns.{PatMove, SetsTo, Compares, Stores, Jumps, Branches, BranchesOn, Calls, Returns}
-use Rattle.po_model.specs.Entries.{Sort, OfReg, OfNum, OfSym, OfLabel, Place, place, kind_of as kind_of_move, IsAmong, IsPieceOf, MayClobber}
+use Rattle.po_model.specs.Entries.{Sort, OfReg, OfNum, OfSym, OfLabel, Place, place, kind_of as kind_of_move, IsAmong}
+use Rattle.po_model.specs.Entries.{IsPieceOf, MayClobber}
 use Rattle.po_pattern.specs.declared.operands.Operands.{Operands}
 use Rattle.po_pattern.specs.declared.operands.OperandKind.{OperandKind}
 use Rattle.po_pattern.specs.declared.operands.OperandKind.TheVariants.{Register, Constant, Symbol, Label}
@@ -17,7 +20,8 @@ use Rattle.po_pattern.specs.Seen.{kind_of, same_kind}
 use Rattle.po_entry.specs.declared.begun.Begun.{Begun}
 use Rattle.po_entry.specs.EntryText.{is_mark, byte_text, piece_text, template_text}
 use Rattle.po_entry.specs.ListRules.{sets_cc, clobber_in}
-use Rattle.po_entry.specs.Template.{arrow, kind_by, piece_by, is_seen, template_step, template_from, nothing_yet, whole_with, template_in}
+use Rattle.po_entry.specs.Template.{arrow, kind_by, piece_by, is_seen, template_step, template_from, nothing_yet}
+use Rattle.po_entry.specs.Template.{whole_with, template_in}
 use Rattle.po_entry.proofs.Told.{sort_of, Tells}
 use Rattle.po_entry.proofs.Noted.{kind_at}
 use Rattle.po_entry.proofs.AgainParts.{at, Again, mark_again, digit_here}
@@ -48,7 +52,9 @@ abbrev pub behind_list : Bool → List ℕ → List ℕ
 behind_list true template = codes "clobber" ++ (32 ∷ (codes "cc" ++ (32 ∷ (codes "=>" ++ (32 ∷ template)))))
 behind_list false template = codes "=>" ++ (32 ∷ template)
 
-pub clobber_again : (clobbers : Bool) (ms : List PatMove) (c : ℕ) (template : List ℕ) (seen : Operands) → MayClobber clobbers ms → Again (clobber_in (map back_move ms) (at c (behind_list clobbers template)) seen) clobbers (codes "=>" ++ (32 ∷ template)) seen
+pub clobber_again : (clobbers : Bool) (ms : List PatMove) (c : ℕ) (template : List ℕ) (seen : Operands)
+    → MayClobber clobbers ms → Again (clobber_in (map back_move ms) (at c (behind_list clobbers template)) seen)
+    clobbers (codes "=>" ++ (32 ∷ template)) seen
 unfolding clobber_in
 clobber_again true ms c template seen h =
     let behind : List ℕ = codes "cc" ++ (32 ∷ (codes "=>" ++ (32 ∷ template))) in
@@ -61,7 +67,8 @@ clobber_again false ms c template seen h =
     let no = word_says (codes "=>") (codes "clobber") c template false refl refl in
     record { column = c; is = rw no refl }
 
-pub arrow_again : (c : ℕ) (template : List ℕ) → arrow (at c (codes "=>" ++ (32 ∷ template))) ≡ Ok (at (c + 2 + 1) template)
+pub arrow_again : (c : ℕ) (template : List ℕ) → arrow (at c (codes "=>" ++ (32 ∷ template)))
+    ≡ Ok (at (c + 2 + 1) template)
 unfolding arrow
 arrow_again c template =
     let yes = says_again (codes "=>") c template refl in
@@ -88,9 +95,11 @@ own_kind Symbol = refl
 own_kind Label = refl
 
 one_kind : (kind o : OperandKind) → sort_of o ≡ sort_of kind → same_kind kind o ≡ true
-one_kind kind o e = subst (λ (x : OperandKind). same_kind kind x ≡ true) (ap kind_at (sym e) ∙ own_kind o) (kind_again kind)
+one_kind kind o e = subst (λ (x : OperandKind). same_kind kind x ≡ true) (ap kind_at (sym e) ∙ own_kind o)
+    (kind_again kind)
 
-seen_among : (ps : List Place) (seen : Operands) (k : ℕ) (o : OperandKind) → Tells seen ps → IsAmong ps k (sort_of o) → is_seen o (kind_of seen k) ≡ true
+seen_among : (ps : List Place) (seen : Operands) (k : ℕ) (o : OperandKind) → Tells seen ps → IsAmong ps k (sort_of o)
+    → is_seen o (kind_of seen k) ≡ true
 seen_among ps seen k o told a =
     let p : Place = place k (sort_of o) a.ranged in
     let there = told.known a.among.0 p a.among.1 in
@@ -103,21 +112,25 @@ seen_among ps seen k o told a =
 from_here : Operands → ℕ → List Piece → List ℕ → Result Begun LineFault
 from_here seen c pieces bytes = template_from seen c (record { pieces = pieces; waiting = None }) bytes
 
-one_byte : (seen : Operands) (c b : ℕ) (pieces : List Piece) (more : List ℕ) → is_mark b ≡ false → 32 ≤ b → b ≤ 126 → from_here seen c pieces (b ∷ more) ≡ from_here seen (c + 1) (pieces ++ piece.Byte b ∷ []) more
+one_byte : (seen : Operands) (c b : ℕ) (pieces : List Piece) (more : List ℕ) → is_mark b ≡ false → 32 ≤ b → b ≤ 126
+    → from_here seen c pieces (b ∷ more) ≡ from_here seen (c + 1) (pieces ++ piece.Byte b ∷ []) more
 unfolding from_here template_from template_step
 one_byte seen c b pieces more unmarked low high =
     let below : nat_le 32 b ≡ true = grind (arith, nat_tests) in
     let above : nat_le b 126 ≡ true = grind (arith, nat_tests) in
     rw unmarked (rw (below, above) refl)
 
-two_marks : (seen : Operands) (c b : ℕ) (pieces : List Piece) (more : List ℕ) → is_mark b ≡ true → from_here seen c pieces (b ∷ b ∷ more) ≡ from_here seen (c + 1 + 1) (pieces ++ piece.Byte b ∷ []) more
+two_marks : (seen : Operands) (c b : ℕ) (pieces : List Piece) (more : List ℕ) → is_mark b ≡ true
+    → from_here seen c pieces (b ∷ b ∷ more) ≡ from_here seen (c + 1 + 1) (pieces ++ piece.Byte b ∷ []) more
 unfolding from_here template_from template_step
 two_marks seen c b pieces more marks =
     let same : (b == b) ≡ true = grind (arith, nat_tests) in
     rw marks (rw same refl)
 
-one_operand : (seen : Operands) (c byte k : ℕ) (pieces : List Piece) (more : List ℕ) → is_mark byte ≡ true → (48 + k == byte) ≡ false → k < 10 → is_seen (kind_by byte) (kind_of seen k) ≡ true
-    → from_here seen c pieces (byte ∷ (48 + k) ∷ more) ≡ from_here seen (c + 1 + 1) (pieces ++ piece_by (kind_by byte) k ∷ []) more
+one_operand : (seen : Operands) (c byte k : ℕ) (pieces : List Piece) (more : List ℕ) → is_mark byte ≡ true
+    → (48 + k == byte) ≡ false → k < 10 → is_seen (kind_by byte) (kind_of seen k) ≡ true
+    → from_here seen c pieces (byte ∷ (48 + k) ∷ more) ≡ from_here seen (c + 1 + 1)
+    (pieces ++ piece_by (kind_by byte) k ∷ []) more
 unfolding from_here template_from template_step
 one_operand seen c byte k pieces more marks differs small there =
     let back : 48 + k - 48 ≡ k = omega arith in
@@ -125,34 +138,65 @@ one_operand seen c byte k pieces more marks differs small there =
     rw marks (rw (differs, back, digit, there) refl)
 
 -- a piece's bytes, and what they leave
-piece_again : (ps : List Place) (seen : Operands) (p : Piece) (c : ℕ) (pieces : List Piece) (more : List ℕ) → Tells seen ps → AreSmall ps → IsPieceOf ps p → (d : ℕ) × (from_here seen c pieces (piece_text p ++ more) ≡ from_here seen d (pieces ++ p ∷ []) more)
+piece_again : (ps : List Place) (seen : Operands) (p : Piece) (c : ℕ) (pieces : List Piece) (more : List ℕ)
+    → Tells seen ps → AreSmall ps → IsPieceOf ps p → (d : ℕ)
+    × (from_here seen c pieces (piece_text p ++ more) ≡ from_here seen d (pieces ++ p ∷ []) more)
 piece_again ps seen (piece.Byte b) c pieces more told small h = by_mark (is_mark b) refl
   where
-    by_mark : (x : Bool) → is_mark b ≡ x → (d : ℕ) × (from_here seen c pieces (byte_text b ++ more) ≡ from_here seen d (pieces ++ piece.Byte b ∷ []) more)
-    by_mark true e = (c + 1 + 1, ap (λ (w : List ℕ). from_here seen c pieces (w ++ more)) (let two : byte_text b ≡ b ∷ b ∷ [] = rw e refl in two) ∙ two_marks seen c b pieces more e)
-    by_mark false e = (c + 1, ap (λ (w : List ℕ). from_here seen c pieces (w ++ more)) (let one : byte_text b ≡ b ∷ [] = rw e refl in one) ∙ one_byte seen c b pieces more e h.0 h.1)
+    by_mark : (x : Bool) → is_mark b ≡ x → (d : ℕ) × (from_here seen c pieces (byte_text b ++ more) ≡ from_here seen d
+        (pieces ++ piece.Byte b ∷ []) more)
+    by_mark true e = (
+      c + 1 + 1,
+      ap (λ (w : List ℕ). from_here seen c pieces (w ++ more))
+          (let two : byte_text b ≡ b ∷ b ∷ [] = rw e refl in two) ∙ two_marks seen c b pieces more e,
+    )
+    by_mark false e = (
+      c + 1,
+      ap (λ (w : List ℕ). from_here seen c pieces (w ++ more))
+          (let one : byte_text b ≡ b ∷ [] = rw e refl in one) ∙ one_byte seen c b pieces more e h.0 h.1,
+    )
 piece_again ps seen (piece.Reg k) c pieces more told small h =
-    let few = small_among ps k OfReg small h in
-    (c + 1 + 1, ap (λ (w : List ℕ). from_here seen c pieces (codes "%" ++ w ++ more)) (decimal_digit k few) ∙ one_operand seen c 37 k pieces more refl (grind (arith, nat_tests)) few (seen_among ps seen k Register told h))
+    let few = small_among ps k OfReg small h in (
+      c + 1 + 1,
+      ap (λ (w : List ℕ). from_here seen c pieces (codes "%" ++ w ++ more)) (decimal_digit k few)
+          ∙ one_operand seen c 37 k pieces more refl (grind (arith, nat_tests)) few
+          (seen_among ps seen k Register told h),
+    )
 piece_again ps seen (piece.Num k) c pieces more told small h =
-    let few = small_among ps k OfNum small h in
-    (c + 1 + 1, ap (λ (w : List ℕ). from_here seen c pieces (codes "#" ++ w ++ more)) (decimal_digit k few) ∙ one_operand seen c 35 k pieces more refl (grind (arith, nat_tests)) few (seen_among ps seen k Constant told h))
+    let few = small_among ps k OfNum small h in (
+      c + 1 + 1,
+      ap (λ (w : List ℕ). from_here seen c pieces (codes "#" ++ w ++ more)) (decimal_digit k few)
+          ∙ one_operand seen c 35 k pieces more refl (grind (arith, nat_tests)) few
+          (seen_among ps seen k Constant told h),
+    )
 piece_again ps seen (piece.Label k) c pieces more told small h =
-    let few = small_among ps k OfLabel small h in
-    (c + 1 + 1, ap (λ (w : List ℕ). from_here seen c pieces (codes "@" ++ w ++ more)) (decimal_digit k few) ∙ one_operand seen c 64 k pieces more refl (grind (arith, nat_tests)) few (seen_among ps seen k Label told h))
+    let few = small_among ps k OfLabel small h in (
+      c + 1 + 1,
+      ap (λ (w : List ℕ). from_here seen c pieces (codes "@" ++ w ++ more)) (decimal_digit k few)
+          ∙ one_operand seen c 64 k pieces more refl (grind (arith, nat_tests)) few (seen_among ps seen k Label told h),
+    )
 piece_again ps seen (piece.Sym k) c pieces more told small h =
-    let few = small_among ps k OfSym small h in
-    (c + 1 + 1, ap (λ (w : List ℕ). from_here seen c pieces (codes "&" ++ w ++ more)) (decimal_digit k few) ∙ one_operand seen c 38 k pieces more refl (grind (arith, nat_tests)) few (seen_among ps seen k Symbol told h))
+    let few = small_among ps k OfSym small h in (
+      c + 1 + 1,
+      ap (λ (w : List ℕ). from_here seen c pieces (codes "&" ++ w ++ more)) (decimal_digit k few)
+          ∙ one_operand seen c 38 k pieces more refl (grind (arith, nat_tests)) few (seen_among ps seen k Symbol told h),
+    )
 
-pieces_again : (ps : List Place) (seen : Operands) (xs : List Piece) (c : ℕ) (pieces : List Piece) → Tells seen ps → AreSmall ps → All (IsPieceOf ps) xs → from_here seen c pieces (template_text xs) ≡ Ok (record { pieces = pieces ++ xs; waiting = None })
+pieces_again : (ps : List Place) (seen : Operands) (xs : List Piece) (c : ℕ) (pieces : List Piece) → Tells seen ps
+    → AreSmall ps → All (IsPieceOf ps) xs → from_here seen c pieces (template_text xs)
+    ≡ Ok (record { pieces = pieces ++ xs; waiting = None })
 unfolding from_here template_from
-pieces_again ps seen [] c pieces told small h = ap (λ (x : List Piece). Ok (record { pieces = x; waiting = None })) (sym (append-nil pieces))
+pieces_again ps seen [] c pieces told small h = ap (λ (x : List Piece). Ok (record { pieces = x; waiting = None }))
+    (sym (append-nil pieces))
 pieces_again ps seen (x ∷ xs) c pieces told small h =
     let one = piece_again ps seen x c pieces (template_text xs) told small (All-head (IsPieceOf ps) x xs h) in
-    one.1 ∙ pieces_again ps seen xs one.0 (pieces ++ x ∷ []) told small (All-tail (IsPieceOf ps) x xs h) ∙ ap (λ (y : List Piece). Ok (record { pieces = y; waiting = None })) (append_assoc pieces (x ∷ []) xs)
+    one.1 ∙ pieces_again ps seen xs one.0 (pieces ++ x ∷ []) told small (All-tail (IsPieceOf ps) x xs h)
+    ∙ ap (λ (y : List Piece). Ok (record { pieces = y; waiting = None })) (append_assoc pieces (x ∷ []) xs)
 
-pub template_again : (ps : List Place) (seen : Operands) (xs : List Piece) (c : ℕ) → Tells seen ps → AreSmall ps → All (IsPieceOf ps) xs → template_in seen (at c (template_text xs)) ≡ Ok xs
+pub template_again : (ps : List Place) (seen : Operands) (xs : List Piece) (c : ℕ) → Tells seen ps → AreSmall ps
+    → All (IsPieceOf ps) xs → template_in seen (at c (template_text xs)) ≡ Ok xs
 unfolding template_in from_here
 template_again ps seen xs c told small h =
-    let read : template_from seen c nothing_yet (template_text xs) ≡ Ok (record { pieces = xs; waiting = None }) = pieces_again ps seen xs c [] told small h in
+    let read : template_from seen c nothing_yet (template_text xs) ≡ Ok (record { pieces = xs; waiting = None }) =
+    pieces_again ps seen xs c [] told small h in
     ap (λ (r : Result Begun LineFault). r >>= (λ s. whole_with s.pieces s.waiting)) read

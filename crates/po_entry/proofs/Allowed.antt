@@ -5,7 +5,8 @@ use Rattle.std.proofs.lemmas.List.{length-map}
 use Rattle.std.proofs.lemmas.List.Elements.{All-nil}
 use Rattle.po_lines.proofs.Results.{bind_ok, ok_is}
 use Rattle.po_model.specs.declared.machine.Entry.{Entry}
-use Rattle.po_model.specs.Patterns.{PatMove, SetsTo, Compares, Stores, Jumps, Branches, BranchesOn, Calls, Returns, pat_moves_of}
+use Rattle.po_model.specs.Patterns.{PatMove, SetsTo, Compares, Stores, Jumps, Branches, BranchesOn, Calls, Returns}
+use Rattle.po_model.specs.Patterns.{pat_moves_of}
 use Rattle.po_model.specs.Entries.{IsPatMove, places_of, IsEntry}
 use Rattle.po_pattern.specs.Rests.{skip_blanks}
 use Rattle.po_pattern.specs.Seen.{none_seen}

@@ -38,8 +38,10 @@ back_layer (PatTerm-F.Const k range) = ap back (const_tree k range)
 back_layer (PatTerm-F.Addr k) = ap back (addr_tree k)
 back_layer (PatTerm-F.Mem e) = ap back (mem_tree e.0) ∙ ap (λ (t : PatTerm). pat.Mem t) e.1
 back_layer (PatTerm-F.Un o e) = ap back (un_tree o e.0) ∙ ap (λ (t : PatTerm). pat.Un o t) e.1
-back_layer (PatTerm-F.Bin o e f) = ap back (bin_tree o e.0 f.0) ∙ ap (λ (t : PatTerm). pat.Bin o t (back (pattern_of f.0))) e.1 ∙ ap (λ (t : PatTerm). pat.Bin o e.0 t) f.1
+back_layer (PatTerm-F.Bin o e f) = ap back (bin_tree o e.0 f.0)
+    ∙ ap (λ (t : PatTerm). pat.Bin o t (back (pattern_of f.0))) e.1 ∙ ap (λ (t : PatTerm). pat.Bin o e.0 t) f.1
 
 -- the term of its plain tree is the term
 pub back_again : (t : PatTerm) → back (pattern_of t) ≡ t
-back_again = ind-PatTerm IsBack (λ x y is. subst (λ (z : PatTerm-F PatTerm). IsBack (roll-PatTerm z)) is (back_layer y))
+back_again = ind-PatTerm IsBack (λ x y is. subst (λ (z : PatTerm-F PatTerm). IsBack (roll-PatTerm z)) is
+    (back_layer y))

@@ -1,5 +1,6 @@
 -- The bytes of a template, taken one by one.
-use Rattle.std.proofs.Common.{◌≡◌, ℕ, ◌+◌, ◌<◌, List, [], ◌∷◌, refl, ap, sym, ◌∙◌, Result, Ok, Err, length, drop, get_or, add-one, drop-cons}
+use Rattle.std.proofs.Common.{◌≡◌, ℕ, ◌+◌, ◌<◌, List, [], ◌∷◌, refl, ap, sym, ◌∙◌, Result, Ok, Err, length, drop}
+use Rattle.std.proofs.Common.{get_or, add-one, drop-cons}
 use Rattle.po_lines.specs.declared.fault.LineFault.{LineFault}
 use Rattle.po_lines.specs.declared.fault.LineError.{LineError}
 use Rattle.po_lines.specs.declared.fault.LineError.TheVariants as error
@@ -12,7 +13,8 @@ drop_next : (bs : List ℕ) (i : ℕ) → i < length bs → drop i bs ≡ get_or
 drop_next bs i h = rw (add-one, drop-cons bs i 0) refl
 
 one_more : (seen : Operands) (column : ℕ) (s t : Begun) (b : ℕ) (bs : List ℕ)
-    → template_step seen column s b ≡ Ok t → template_from seen column s (b ∷ bs) ≡ template_from seen (column + 1) t bs
+    → template_step seen column s b ≡ Ok t → template_from seen column s (b ∷ bs) ≡ template_from seen (column + 1) t
+    bs
 unfolding template_from
 one_more seen column s t b bs told = rw told refl
 
@@ -30,13 +32,17 @@ pub takes_on : (seen : Operands) (column : ℕ) (s t : Begun) (bs : List ℕ) (i
     → i < length bs → template_step seen column s (get_or bs i 0) ≡ Ok t → template_from seen column s (drop i bs) ≡ r
     → template_from seen (column + 1) t (drop (i + 1) bs) ≡ r
 takes_on seen column s t bs i r h told read =
-    sym (one_more seen column s t (get_or bs i 0) (drop (i + 1) bs) told) ∙ sym (ap (template_from seen column s) (drop_next bs i h)) ∙ read
+    sym (one_more seen column s t (get_or bs i 0) (drop (i + 1) bs) told)
+    ∙ sym (ap (template_from seen column s) (drop_next bs i h)) ∙ read
 
 -- a byte with one
-pub fails_on : (seen : Operands) (column : ℕ) (s : Begun) (bs : List ℕ) (i : ℕ) (e : LineError) (r : Result Begun LineFault)
-    → i < length bs → Fails e (template_step seen column s (get_or bs i 0)) → template_from seen column s (drop i bs) ≡ r → Fails e r
+pub fails_on : (seen : Operands) (column : ℕ) (s : Begun) (bs : List ℕ) (i : ℕ) (e : LineError)
+    (r : Result Begun LineFault)
+    → i < length bs → Fails e (template_step seen column s (get_or bs i 0)) → template_from seen column s (drop i bs)
+    ≡ r → Fails e r
 fails_on seen column s bs i (error.Fault f) r h told read =
-    sym read ∙ ap (template_from seen column s) (drop_next bs i h) ∙ stopped seen column s (get_or bs i 0) (drop (i + 1) bs) f told
+    sym read ∙ ap (template_from seen column s) (drop_next bs i h) ∙ stopped seen column s (get_or bs i 0)
+    (drop (i + 1) bs) f told
 fails_on seen column s bs i error.Memory r h told read = tt
 
 -- no byte is left

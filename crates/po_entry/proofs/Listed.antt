@@ -1,5 +1,6 @@
 -- What the list of an entry's transfers keeps, as each next one is taken: the form of instructions.
-use Rattle.std.proofs.Common.{◌≡◌, ◌<◌, ◌≤◌, ◌&&◌, Bool, true, false, not, nat_lt, List, [], ◌∷◌, ◌++◌, length, All, AllPairs, refl, sym, ◌∙◌, subst, arith, ltb-true, eq-eqb, zero-le}
+use Rattle.std.proofs.Common.{◌≡◌, ◌<◌, ◌≤◌, ◌&&◌, Bool, true, false, not, nat_lt, List, [], ◌∷◌, ◌++◌, length, All}
+use Rattle.std.proofs.Common.{AllPairs, refl, sym, ◌∙◌, subst, arith, ltb-true, eq-eqb, zero-le}
 use Rattle.std.specs.List.{list_all}
 use Rattle.std.proofs.lemmas.Bool.{and_parts}
 use Rattle.std.proofs.lemmas.List.{map-append, length-append, length-map}
@@ -100,19 +101,25 @@ pub record Listed (ms : List PatMove) : Type 0 where
 pub none_listed : Listed []
 none_listed = record { few = omega arith; pairs = λ i j d h k. absurd (omega (arith, k)); free = All-nil LeavesFp }
 
-pub moves_push : (before : List PatTransfer) (m : PatTransfer) → pat_moves_of (before ++ m ∷ []) ≡ pat_moves_of before ++ pat_move_of m ∷ []
+pub moves_push : (before : List PatTransfer) (m : PatTransfer) → pat_moves_of (before ++ m ∷ []) ≡ pat_moves_of before
+    ++ pat_move_of m ∷ []
 moves_push before m = map-append pat_move_of before (m ∷ [])
 
 -- one transfer more
-pub listed_on : (before : List PatTransfer) (m : PatTransfer) → may_follow before m ≡ true → Listed (pat_moves_of before) → Listed (pat_moves_of (before ++ m ∷ []))
+pub listed_on : (before : List PatTransfer) (m : PatTransfer) → may_follow before m ≡ true
+    → Listed (pat_moves_of before) → Listed (pat_moves_of (before ++ m ∷ []))
 unfolding may_follow
 listed_on before m e h =
-    let parts = and_parts (nat_lt (length before) 4 && not (sets (Fixed Fp) m)) (list_all (λ n. goes_before n m) before) e in
+    let parts = and_parts (nat_lt (length before) 4 && not (sets (Fixed Fp) m))
+    (list_all (λ n. goes_before n m) before) e in
     let first = and_parts (nat_lt (length before) 4) (not (sets (Fixed Fp) m)) parts.0 in
     let room : length before < 4 = ltb-true _ _ first.0 in
-    let each = All-map (λ n. GoesBefore n (pat_move_of m)) pat_move_of before (All-weaker (λ n. goes_before n m ≡ true) (λ n. GoesBefore (pat_move_of n) (pat_move_of m)) (λ n g. follows n m g) before (AllPass-from_list_all (λ n. goes_before n m) before parts.1)) in
+    let each = All-map (λ n. GoesBefore n (pat_move_of m)) pat_move_of before
+    (All-weaker (λ n. goes_before n m ≡ true) (λ n. GoesBefore (pat_move_of n) (pat_move_of m))
+    (λ n g. follows n m g) before (AllPass-from_list_all (λ n. goes_before n m) before parts.1)) in
     subst (λ (ms : List PatMove). Listed ms) (sym (moves_push before m)) (record {
       few = simp (length-append, length-map) (omega arith);
       pairs = all_pairs_push GoesBefore (pat_moves_of before) (pat_move_of m) h.pairs each;
-      free = All-push LeavesFp (pat_moves_of before) (pat_move_of m) h.free (λ s. set_apart (Fixed Fp) (Fixed Fp) m first.1 refl s);
+      free = All-push LeavesFp (pat_moves_of before) (pat_move_of m) h.free
+          (λ s. set_apart (Fixed Fp) (Fixed Fp) m first.1 refl s);
     })

@@ -1,5 +1,6 @@
 -- What was read where a transfer stands.
-use Rattle.std.proofs.Common.{◌≡◌, ℕ, ◌<◌, List, [], ◌++◌, refl, sym, ap, ◌∙◌, subst, Option, Some, None, Ok, inl, inr, append_assoc}
+use Rattle.std.proofs.Common.{◌≡◌, ℕ, ◌<◌, List, [], ◌++◌, refl, sym, ap, ◌∙◌, subst, Option, Some, None, Ok, inl}
+use Rattle.std.proofs.Common.{inr, append_assoc}
 use Rattle.std.specs.Prelude.{codes, ⊤}
 use Rattle.std.specs.Option.{option_map}
 use Rattle.po_word.specs.declared.operator.Rel.{Rel}
@@ -10,7 +11,8 @@ use Rattle.po_model.specs.declared.machine.PatCond.{PatCond}
 use Rattle.po_model.specs.declared.machine.PatCond.TheVariants as condition
 use Rattle.po_model.specs.declared.machine.PatTransfer.{PatTransfer}
 use Rattle.po_model.specs.declared.machine.PatTransfer.TheVariants as transfer
-use Rattle.po_model.specs.Patterns.{PatTree, PatMove, SetsTo, Compares, Stores, Jumps, Branches, BranchesOn, Calls, Returns, pattern_of, pat_move_of}
+use Rattle.po_model.specs.Patterns.{PatTree, PatMove, SetsTo, Compares, Stores, Jumps, Branches, BranchesOn, Calls}
+use Rattle.po_model.specs.Patterns.{Returns, pattern_of, pat_move_of}
 use Rattle.po_model.specs.Entries.{Place, IsPatReg, IsPatTree, reg_places, tree_places, move_places}
 use Rattle.po_pattern.specs.declared.operands.Operands.{Operands}
 use Rattle.po_pattern.specs.declared.operands.OperandKind.TheVariants.{Symbol, Label}
@@ -19,17 +21,20 @@ use Rattle.po_pattern.specs.Parts as parts
 use Rattle.po_pattern.specs.Terms as terms
 use Rattle.po_entry.specs.declared.pair.Pair.{Pair}
 use Rattle.po_entry.specs.Words.{word_here, says, behind_word, ends_word, keyword, ended}
-use Rattle.po_entry.specs.Transfers.{register, term, address, label, symbol, pair_of, compared, set_in, cc_in, store_in, goto_in, relation_of, relation_with, relation, branch_in, if_in, call_in, begins_memory, setting_in, transfer_in}
+use Rattle.po_entry.specs.Transfers.{register, term, address, label, symbol, pair_of, compared, set_in, cc_in}
+use Rattle.po_entry.specs.Transfers.{store_in, goto_in, relation_of, relation_with, relation, branch_in, if_in}
+use Rattle.po_entry.specs.Transfers.{call_in, begins_memory, setting_in, transfer_in}
 use Rattle.po_entry.proofs.Told.{Tells}
 use Rattle.po_entry.proofs.Leaves.{IsDigitAt, operand_came}
 use Rattle.po_entry.proofs.Parts.{IsRegAt, register_came, none_more}
 use Rattle.po_entry.proofs.Terms.{TermHas, term_came, address_came}
 
 -- what was read of this form, with its places behind those before it
-pub record Found {T : Type 0} (Has : T → List Place → Type 0) (ps : List Place) (value : T) (seen : Operands) : Type 0 where
-  pub places : List Place
-  pub has : Has value places
-  pub told : Tells seen (ps ++ places)
+pub record Found {T : Type 0} (Has : T → List Place → Type 0) (ps : List Place) (value : T) (seen : Operands) : Type 0
+  where
+    pub places : List Place
+    pub has : Has value places
+    pub told : Tells seen (ps ++ places)
 
 ended_same : {T : Type 0} (x y : Read T) → ended x ≡ Ok y → (x.value ≡ y.value) × (x.seen ≡ y.seen)
 unfolding ended
@@ -38,39 +43,45 @@ ended_same {T = T} x y e = elim (chosen (ends_word x.rest.bytes) _ _ _ e) [
   | inr (h, is) ↦ absurd (not_ok is)
 ]
 
-found_ended : {T : Type 0} (Has : T → List Place → Type 0) (ps : List Place) (x y : Read T) → ended x ≡ Ok y → Found Has ps x.value x.seen → Found Has ps y.value y.seen
+found_ended : {T : Type 0} (Has : T → List Place → Type 0) (ps : List Place) (x y : Read T) → ended x ≡ Ok y
+    → Found Has ps x.value x.seen → Found Has ps y.value y.seen
 found_ended {T = T} Has ps x y e h = let is = ended_same x y e in
     subst (λ (v : T). Found Has ps v y.seen) is.0 (subst (λ (s : Operands). Found Has ps x.value s) is.1 h)
 
-register_found : (r : Rest) (seen : Operands) (x : Read PatReg) (ps : List Place) → register r seen ≡ Ok x → Tells seen ps → Found IsRegAt ps x.value x.seen
+register_found : (r : Rest) (seen : Operands) (x : Read PatReg) (ps : List Place) → register r seen ≡ Ok x
+    → Tells seen ps → Found IsRegAt ps x.value x.seen
 unfolding register
 register_found r seen x ps e told =
     let p = bind_ok (parts.register r seen) _ x e in
     let came = register_came r seen p.0 ps p.1 told in
     found_ended IsRegAt ps p.0 x p.2 (record { places = came.places; has = came.has; told = came.told })
 
-term_found : (r : Rest) (seen : Operands) (x : Read (Option PatTerm)) (ps : List Place) → term r seen ≡ Ok x → Tells seen ps → Found TermHas ps x.value x.seen
+term_found : (r : Rest) (seen : Operands) (x : Read (Option PatTerm)) (ps : List Place) → term r seen ≡ Ok x
+    → Tells seen ps → Found TermHas ps x.value x.seen
 unfolding term
 term_found r seen x ps e told =
     let p = bind_ok (terms.term r seen) _ x e in
     let came = term_came r seen p.0 ps p.1 told in
     found_ended TermHas ps p.0 x p.2 (record { places = came.0; has = came.1; told = came.2 })
 
-address_found : (r : Rest) (seen : Operands) (x : Read (Option PatTerm)) (ps : List Place) → address r seen ≡ Ok x → Tells seen ps → Found TermHas ps x.value x.seen
+address_found : (r : Rest) (seen : Operands) (x : Read (Option PatTerm)) (ps : List Place) → address r seen ≡ Ok x
+    → Tells seen ps → Found TermHas ps x.value x.seen
 unfolding address
 address_found r seen x ps e told =
     let p = bind_ok (terms.address r seen) _ x e in
     let came = address_came r seen p.0 ps p.1 told in
     found_ended TermHas ps p.0 x p.2 (record { places = came.0; has = came.1; told = came.2 })
 
-label_found : (r : Rest) (seen : Operands) (x : Read ℕ) (ps : List Place) → label r seen ≡ Ok x → Tells seen ps → Found (IsDigitAt Label) ps x.value x.seen
+label_found : (r : Rest) (seen : Operands) (x : Read ℕ) (ps : List Place) → label r seen ≡ Ok x → Tells seen ps
+    → Found (IsDigitAt Label) ps x.value x.seen
 unfolding label parts.label
 label_found r seen x ps e told =
     let p = bind_ok (parts.operand Label r seen) _ x e in
     let came = operand_came Label r seen p.0 ps p.1 told in
     found_ended (IsDigitAt Label) ps p.0 x p.2 (record { places = came.places; has = came.has; told = came.told })
 
-symbol_found : (r : Rest) (seen : Operands) (x : Read ℕ) (ps : List Place) → symbol r seen ≡ Ok x → Tells seen ps → Found (IsDigitAt Symbol) ps x.value x.seen
+symbol_found : (r : Rest) (seen : Operands) (x : Read ℕ) (ps : List Place) → symbol r seen ≡ Ok x → Tells seen ps
+    → Found (IsDigitAt Symbol) ps x.value x.seen
 unfolding symbol parts.symbol
 symbol_found r seen x ps e told =
     let p = bind_ok (parts.operand Symbol r seen) _ x e in
@@ -98,15 +109,18 @@ pair_has (Some t) (Some u) cs bs h g = record {
 }
 
 -- two things, one behind the other
-both_found : {S T U : Type 0} (HasS : S → List Place → Type 0) (HasT : T → List Place → Type 0) (HasU : U → List Place → Type 0) (ps : List Place) (s : S) (t : T) (u : U) (before after : Operands)
-    → ((cs bs : List Place) → HasS s cs → HasT t bs → HasU u (cs ++ bs)) → (f : Found HasS ps s before) → Found HasT (ps ++ f.places) t after → Found HasU ps u after
+both_found : {S T U : Type 0} (HasS : S → List Place → Type 0) (HasT : T → List Place → Type 0)
+    (HasU : U → List Place → Type 0) (ps : List Place) (s : S) (t : T) (u : U) (before after : Operands)
+    → ((cs bs : List Place) → HasS s cs → HasT t bs → HasU u (cs ++ bs)) → (f : Found HasS ps s before)
+    → Found HasT (ps ++ f.places) t after → Found HasU ps u after
 both_found HasS HasT HasU ps s t u before after join f g = record {
   places = f.places ++ g.places;
   has = join f.places g.places f.has g.has;
   told = subst (λ (qs : List Place). Tells after qs) (append_assoc ps f.places g.places) g.told;
 }
 
-compared_found : (r : Rest) (seen : Operands) (x : Read (Option Pair)) (ps : List Place) → compared r seen ≡ Ok x → Tells seen ps → Found PairHas ps x.value x.seen
+compared_found : (r : Rest) (seen : Operands) (x : Read (Option Pair)) (ps : List Place) → compared r seen ≡ Ok x
+    → Tells seen ps → Found PairHas ps x.value x.seen
 unfolding compared
 compared_found r seen x ps e told =
     let p = bind_ok (term r seen) _ x e in
@@ -115,7 +129,8 @@ compared_found r seen x ps e told =
     let left = term_found r seen p.0 ps p.1 told in
     let right = term_found q.0 p.0.seen s.0 (ps ++ left.places) s.1 left.told in
     subst (λ (y : Read (Option Pair)). Found PairHas ps y.value y.seen) (ok_is s.2)
-    (both_found TermHas TermHas PairHas ps p.0.value s.0.value (pair_of p.0.value s.0.value) p.0.seen s.0.seen (pair_has p.0.value s.0.value) left right)
+    (both_found TermHas TermHas PairHas ps p.0.value s.0.value (pair_of p.0.value s.0.value) p.0.seen s.0.seen
+    (pair_has p.0.value s.0.value) left right)
 
 -- a transfer, but for what the list decides of it
 
@@ -137,14 +152,16 @@ abbrev pub MoveHas : Option PatTransfer → List Place → Type 0
 MoveHas None qs = ⊤
 MoveHas (Some m) qs = IsMoveAt (pat_move_of m) qs
 
-set_has : (to : PatReg) (t : Option PatTerm) (cs bs : List Place) → IsRegAt to cs → TermHas t bs → MoveHas (option_map (transfer.Set to) t) (cs ++ bs)
+set_has : (to : PatReg) (t : Option PatTerm) (cs bs : List Place) → IsRegAt to cs → TermHas t bs
+    → MoveHas (option_map (transfer.Set to) t) (cs ++ bs)
 set_has to None cs bs h g = tt
 set_has to (Some t) cs bs h g = record {
   is = ap (λ (x : List Place). x ++ bs) h.is ∙ ap (λ (x : List Place). reg_places to ++ x) g.is;
   fine = (h.fine, g.fine);
 }
 
-set_found : (r : Rest) (seen : Operands) (x : Read (Option PatTransfer)) (ps : List Place) → set_in r seen ≡ Ok x → Tells seen ps → Found MoveHas ps x.value x.seen
+set_found : (r : Rest) (seen : Operands) (x : Read (Option PatTransfer)) (ps : List Place) → set_in r seen ≡ Ok x
+    → Tells seen ps → Found MoveHas ps x.value x.seen
 unfolding set_in
 set_found r seen x ps e told =
     let p = bind_ok (register r seen) _ x e in
@@ -153,30 +170,38 @@ set_found r seen x ps e told =
     let to = register_found r seen p.0 ps p.1 told in
     let from = term_found q.0 p.0.seen s.0 (ps ++ to.places) s.1 to.told in
     subst (λ (y : Read (Option PatTransfer)). Found MoveHas ps y.value y.seen) (ok_is s.2)
-    (both_found IsRegAt TermHas MoveHas ps p.0.value s.0.value (option_map (transfer.Set p.0.value) s.0.value) p.0.seen s.0.seen (set_has p.0.value s.0.value) to from)
+    (both_found IsRegAt TermHas MoveHas ps p.0.value s.0.value (option_map (transfer.Set p.0.value) s.0.value)
+    p.0.seen s.0.seen (set_has p.0.value s.0.value) to from)
 
 -- as something else of the same places
-found_as : {S T : Type 0} (HasS : S → List Place → Type 0) (HasT : T → List Place → Type 0) (ps : List Place) (s : S) (t : T) (seen : Operands) → ((qs : List Place) → HasS s qs → HasT t qs) → Found HasS ps s seen → Found HasT ps t seen
+found_as : {S T : Type 0} (HasS : S → List Place → Type 0) (HasT : T → List Place → Type 0) (ps : List Place) (s : S)
+    (t : T) (seen : Operands) → ((qs : List Place) → HasS s qs → HasT t qs) → Found HasS ps s seen
+    → Found HasT ps t seen
 found_as HasS HasT ps s t seen make f = record { places = f.places; has = make f.places f.has; told = f.told }
 
-cc_has : (p : Option Pair) (qs : List Place) → PairHas p qs → MoveHas (option_map (λ p. transfer.Cc p.left p.right) p) qs
+cc_has : (p : Option Pair) (qs : List Place) → PairHas p qs → MoveHas (option_map (λ p. transfer.Cc p.left p.right) p)
+    qs
 cc_has None qs h = tt
 cc_has (Some p) qs h = record { is = h.is; fine = (h.left, h.right) }
 
-store_has : (p : Option Pair) (qs : List Place) → PairHas p qs → MoveHas (option_map (λ p. transfer.Store p.left p.right) p) qs
+store_has : (p : Option Pair) (qs : List Place) → PairHas p qs
+    → MoveHas (option_map (λ p. transfer.Store p.left p.right) p) qs
 store_has None qs h = tt
 store_has (Some p) qs h = record { is = h.is; fine = (h.left, h.right) }
 
-cc_found : (r : Rest) (seen : Operands) (x : Read (Option PatTransfer)) (ps : List Place) → cc_in r seen ≡ Ok x → Tells seen ps → Found MoveHas ps x.value x.seen
+cc_found : (r : Rest) (seen : Operands) (x : Read (Option PatTransfer)) (ps : List Place) → cc_in r seen ≡ Ok x
+    → Tells seen ps → Found MoveHas ps x.value x.seen
 unfolding cc_in
 cc_found r seen x ps e told =
     let p = bind_ok (keyword (codes "cc") r) _ x e in
     let q = bind_ok (keyword (codes ":=") p.0) _ x p.2 in
     let s = bind_ok (compared q.0 seen) _ x q.2 in
     subst (λ (y : Read (Option PatTransfer)). Found MoveHas ps y.value y.seen) (ok_is s.2)
-    (found_as PairHas MoveHas ps s.0.value (option_map (λ p. transfer.Cc p.left p.right) s.0.value) s.0.seen (cc_has s.0.value) (compared_found q.0 seen s.0 ps s.1 told))
+    (found_as PairHas MoveHas ps s.0.value (option_map (λ p. transfer.Cc p.left p.right) s.0.value) s.0.seen
+    (cc_has s.0.value) (compared_found q.0 seen s.0 ps s.1 told))
 
-store_found : (r : Rest) (seen : Operands) (x : Read (Option PatTransfer)) (ps : List Place) → store_in r seen ≡ Ok x → Tells seen ps → Found MoveHas ps x.value x.seen
+store_found : (r : Rest) (seen : Operands) (x : Read (Option PatTransfer)) (ps : List Place) → store_in r seen ≡ Ok x
+    → Tells seen ps → Found MoveHas ps x.value x.seen
 unfolding store_in
 store_found r seen x ps e told =
     let p = bind_ok (address r seen) _ x e in
@@ -184,19 +209,24 @@ store_found r seen x ps e told =
     let s = bind_ok (term q.0 p.0.seen) _ x q.2 in
     let left = address_found r seen p.0 ps p.1 told in
     let right = term_found q.0 p.0.seen s.0 (ps ++ left.places) s.1 left.told in
-    let two = both_found TermHas TermHas PairHas ps p.0.value s.0.value (pair_of p.0.value s.0.value) p.0.seen s.0.seen (pair_has p.0.value s.0.value) left right in
+    let two = both_found TermHas TermHas PairHas ps p.0.value s.0.value (pair_of p.0.value s.0.value) p.0.seen
+    s.0.seen (pair_has p.0.value s.0.value) left right in
     subst (λ (y : Read (Option PatTransfer)). Found MoveHas ps y.value y.seen) (ok_is s.2)
-    (found_as PairHas MoveHas ps (pair_of p.0.value s.0.value) (option_map (λ p. transfer.Store p.left p.right) (pair_of p.0.value s.0.value)) s.0.seen (store_has (pair_of p.0.value s.0.value)) two)
+    (found_as PairHas MoveHas ps (pair_of p.0.value s.0.value) (option_map (λ p. transfer.Store p.left p.right)
+    (pair_of p.0.value s.0.value)) s.0.seen (store_has (pair_of p.0.value s.0.value)) two)
 
-goto_found : (r : Rest) (seen : Operands) (x : Read ℕ) (ps : List Place) → goto_in r seen ≡ Ok x → Tells seen ps → Found (IsDigitAt Label) ps x.value x.seen
+goto_found : (r : Rest) (seen : Operands) (x : Read ℕ) (ps : List Place) → goto_in r seen ≡ Ok x → Tells seen ps
+    → Found (IsDigitAt Label) ps x.value x.seen
 unfolding goto_in
 goto_found r seen x ps e told = let p = bind_ok (keyword (codes "goto") r) _ x e in label_found p.0 seen x ps p.2 told
 
-call_found : (r : Rest) (seen : Operands) (x : Read ℕ) (ps : List Place) → call_in r seen ≡ Ok x → Tells seen ps → Found (IsDigitAt Symbol) ps x.value x.seen
+call_found : (r : Rest) (seen : Operands) (x : Read ℕ) (ps : List Place) → call_in r seen ≡ Ok x → Tells seen ps
+    → Found (IsDigitAt Symbol) ps x.value x.seen
 unfolding call_in
 call_found r seen x ps e told = let p = bind_ok (keyword (codes "call") r) _ x e in symbol_found p.0 seen x ps p.2 told
 
-relation_same : (r : Rest) (seen : Operands) (x : Read Rel) (found : Option Rel) → relation_with r seen found ≡ Ok x → x.seen ≡ seen
+relation_same : (r : Rest) (seen : Operands) (x : Read Rel) (found : Option Rel) → relation_with r seen found ≡ Ok x
+    → x.seen ≡ seen
 relation_same r seen x None e = absurd (not_ok e)
 relation_same r seen x (Some rel) e = sym (ap (λ (y : Read Rel). y.seen) (ok_is e))
 
@@ -206,40 +236,53 @@ CondHas None qs = ⊤
 CondHas (Some condition.Cc) qs = qs ≡ []
 CondHas (Some (condition.Two t u)) qs = IsPairAt (pattern_of t) (pattern_of u) qs
 
-branch_has : (c : Option PatCond) (rel : Rel) (k : ℕ) (cs bs : List Place) → CondHas c cs → IsDigitAt Label k bs → MoveHas (option_map (λ c. transfer.If c rel k) c) (cs ++ bs)
+branch_has : (c : Option PatCond) (rel : Rel) (k : ℕ) (cs bs : List Place) → CondHas c cs → IsDigitAt Label k bs
+    → MoveHas (option_map (λ c. transfer.If c rel k) c) (cs ++ bs)
 branch_has None rel k cs bs h g = tt
-branch_has (Some condition.Cc) rel k cs bs h g = record { is = ap (λ (x : List Place). x ++ bs) h ∙ g.is; fine = g.small }
+branch_has (Some condition.Cc) rel k cs bs h g = record {
+  is = ap (λ (x : List Place). x ++ bs) h ∙ g.is;
+  fine = g.small;
+}
 branch_has (Some (condition.Two t u)) rel k cs bs h g = record {
-  is = ap (λ (x : List Place). x ++ bs) h.is ∙ ap (λ (x : List Place). (tree_places (pattern_of t) ++ tree_places (pattern_of u)) ++ x) g.is;
+  is = ap (λ (x : List Place). x ++ bs) h.is ∙ ap (λ (x : List Place).
+      (tree_places (pattern_of t) ++ tree_places (pattern_of u)) ++ x) g.is;
   fine = (h.left, h.right, g.small);
 }
 
-branch_found : (c : Option PatCond) (r : Rest) (seen : Operands) (x : Read (Option PatTransfer)) (ps : List Place) → branch_in c r seen ≡ Ok x → Found CondHas ps c seen → Found MoveHas ps x.value x.seen
+branch_found : (c : Option PatCond) (r : Rest) (seen : Operands) (x : Read (Option PatTransfer)) (ps : List Place)
+    → branch_in c r seen ≡ Ok x → Found CondHas ps c seen → Found MoveHas ps x.value x.seen
 unfolding branch_in relation
 branch_found c r seen x ps e f =
     let p = bind_ok (relation r seen) _ x e in
     let q = bind_ok (goto_in p.0.rest p.0.seen) _ x p.2 in
     let same = relation_same r seen p.0 (relation_of (word_here r)) p.1 in
-    let to = goto_found p.0.rest p.0.seen q.0 (ps ++ f.places) q.1 (subst (λ (s : Operands). Tells s (ps ++ f.places)) (sym same) f.told) in
+    let to = goto_found p.0.rest p.0.seen q.0 (ps ++ f.places) q.1 (subst (λ (s : Operands). Tells s (ps ++ f.places))
+    (sym same) f.told) in
     subst (λ (y : Read (Option PatTransfer)). Found MoveHas ps y.value y.seen) (ok_is q.2)
-    (both_found CondHas (IsDigitAt Label) MoveHas ps c q.0.value (option_map (λ c. transfer.If c p.0.value q.0.value) c) seen q.0.seen (branch_has c p.0.value q.0.value) f to)
+    (both_found CondHas (IsDigitAt Label) MoveHas ps c q.0.value (option_map (λ c. transfer.If c p.0.value q.0.value)
+    c) seen q.0.seen (branch_has c p.0.value q.0.value) f to)
 
-two_has : (p : Option Pair) (qs : List Place) → PairHas p qs → CondHas (option_map (λ p. condition.Two p.left p.right) p) qs
+two_has : (p : Option Pair) (qs : List Place) → PairHas p qs
+    → CondHas (option_map (λ p. condition.Two p.left p.right) p) qs
 two_has None qs h = tt
 two_has (Some p) qs h = h
 
-if_found : (r : Rest) (seen : Operands) (x : Read (Option PatTransfer)) (ps : List Place) → if_in r seen ≡ Ok x → Tells seen ps → Found MoveHas ps x.value x.seen
+if_found : (r : Rest) (seen : Operands) (x : Read (Option PatTransfer)) (ps : List Place) → if_in r seen ≡ Ok x
+    → Tells seen ps → Found MoveHas ps x.value x.seen
 unfolding if_in
 if_found r seen x ps e told =
     let p = bind_ok (keyword (codes "if") r) _ x e in
     elim (chosen (says (codes "cc") p.0) _ _ _ p.2) [
-      | inl (h, is) ↦ branch_found (Some condition.Cc) (behind_word p.0) seen x ps is (record { places = []; has = refl; told = none_more seen ps told })
+      | inl (h, is) ↦ branch_found (Some condition.Cc) (behind_word p.0) seen x ps is
+          (record { places = []; has = refl; told = none_more seen ps told })
       | inr (h, is) ↦ (let q = bind_ok (compared p.0 seen) _ x is in
           branch_found (option_map (λ p. condition.Two p.left p.right) q.0.value) q.0.rest q.0.seen x ps q.2
-          (found_as PairHas CondHas ps q.0.value (option_map (λ p. condition.Two p.left p.right) q.0.value) q.0.seen (two_has q.0.value) (compared_found p.0 seen q.0 ps q.1 told)))
+          (found_as PairHas CondHas ps q.0.value (option_map (λ p. condition.Two p.left p.right) q.0.value) q.0.seen
+          (two_has q.0.value) (compared_found p.0 seen q.0 ps q.1 told)))
     ]
 
-setting_found : (r : Rest) (seen : Operands) (x : Read (Option PatTransfer)) (ps : List Place) → setting_in r seen ≡ Ok x → Tells seen ps → Found MoveHas ps x.value x.seen
+setting_found : (r : Rest) (seen : Operands) (x : Read (Option PatTransfer)) (ps : List Place) → setting_in r seen
+    ≡ Ok x → Tells seen ps → Found MoveHas ps x.value x.seen
 unfolding setting_in
 setting_found r seen x ps e told = elim (chosen (says (codes "cc") r) _ _ _ e) [
   | inl (h, is) ↦ cc_found r seen x ps is told
@@ -255,16 +298,19 @@ goto_has k qs h = record { is = h.is; fine = h.small }
 call_has : (k : ℕ) (qs : List Place) → IsDigitAt Symbol k qs → MoveHas (Some (transfer.Call k)) qs
 call_has k qs h = record { is = h.is; fine = h.small }
 
-pub transfer_found : (r : Rest) (seen : Operands) (x : Read (Option PatTransfer)) (ps : List Place) → transfer_in r seen ≡ Ok x → Tells seen ps → Found MoveHas ps x.value x.seen
+pub transfer_found : (r : Rest) (seen : Operands) (x : Read (Option PatTransfer)) (ps : List Place)
+    → transfer_in r seen ≡ Ok x → Tells seen ps → Found MoveHas ps x.value x.seen
 unfolding transfer_in
 transfer_found r seen x ps e told = elim (chosen (says (codes "goto") r) _ _ _ e) [
   | inl (h, is) ↦ (let p = bind_ok (goto_in r seen) _ x is in
       subst (λ (y : Read (Option PatTransfer)). Found MoveHas ps y.value y.seen) (ok_is p.2)
-      (found_as (IsDigitAt Label) MoveHas ps p.0.value (Some (transfer.Goto p.0.value)) p.0.seen (goto_has p.0.value) (goto_found r seen p.0 ps p.1 told)))
+      (found_as (IsDigitAt Label) MoveHas ps p.0.value (Some (transfer.Goto p.0.value)) p.0.seen (goto_has p.0.value)
+      (goto_found r seen p.0 ps p.1 told)))
   | inr (h, is) ↦ elim (chosen (says (codes "call") r) _ _ _ is) [
     | inl (g, at) ↦ (let p = bind_ok (call_in r seen) _ x at in
         subst (λ (y : Read (Option PatTransfer)). Found MoveHas ps y.value y.seen) (ok_is p.2)
-        (found_as (IsDigitAt Symbol) MoveHas ps p.0.value (Some (transfer.Call p.0.value)) p.0.seen (call_has p.0.value) (call_found r seen p.0 ps p.1 told)))
+        (found_as (IsDigitAt Symbol) MoveHas ps p.0.value (Some (transfer.Call p.0.value)) p.0.seen
+        (call_has p.0.value) (call_found r seen p.0 ps p.1 told)))
     | inr (g, at) ↦ elim (chosen (says (codes "ret") r) _ _ _ at) [
       | inl (f, to) ↦ subst (λ (y : Read (Option PatTransfer)). Found MoveHas ps y.value y.seen) (ok_is to)
           (record { places = []; has = record { is = refl; fine = tt }; told = none_more seen ps told })

@@ -1,4 +1,5 @@
--- The operands seen behind places that are read one after the other, and which places may be read behind these operands.
+-- The operands seen behind places that are read one after the other, and which places may be read behind these
+-- operands.
 use Rattle.std.proofs.Common.{◌≡◌, true, List, [], ◌∷◌, ◌++◌, refl}
 use Rattle.std.specs.Prelude.{⊤}
 use Rattle.po_pattern.specs.declared.operands.Operands.{Operands}

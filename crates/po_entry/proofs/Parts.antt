@@ -1,5 +1,7 @@
 -- What was read where a range, a constant or a register stands.
-use Rattle.std.proofs.Common.{◌≡◌, ℕ, ◌^◌, ◌<◌, ◌≤◌, Bool, true, false, List, [], ◌∷◌, ◌++◌, length, take, refl, sym, ◌∙◌, subst, arith, zero, suc, Option, Some, None, Ok, Err, ℤ, pos, negsuc, inl, inr, append-nil, leb-true}
+use Rattle.std.proofs.Common.{◌≡◌, ℕ, ◌^◌, ◌<◌, ◌≤◌, Bool, true, false, List, [], ◌∷◌, ◌++◌, length, take, refl, sym}
+use Rattle.std.proofs.Common.{◌∙◌, subst, arith, zero, suc, Option, Some, None, Ok, Err, ℤ, pos, negsuc, inl, inr}
+use Rattle.std.proofs.Common.{append-nil, leb-true}
 use Rattle.std.specs.Prelude.{cond, int_le, codes, ⊤}
 use Rattle.std.specs.List.{prefix_len}
 use Rattle.std.proofs.lemmas.List.{length-drop}
@@ -16,13 +18,15 @@ use Rattle.po_pattern.specs.declared.operands.Operands.{Operands}
 use Rattle.po_pattern.specs.declared.operands.OperandKind.TheVariants.{Register, Constant, Symbol}
 use Rattle.po_pattern.specs.Rests.{Rest, Read, skip_blanks, begins, mark}
 use Rattle.po_pattern.specs.Seen.{kind_of, is_new}
-use Rattle.po_pattern.specs.Parts.{operand, number, in_order, range, range_behind, any_register, constant, symbol_address, numeral, name_here, fixed_of, fixed_with, fixed_register, register}
+use Rattle.po_pattern.specs.Parts.{operand, number, in_order, range, range_behind, any_register, constant}
+use Rattle.po_pattern.specs.Parts.{symbol_address, numeral, name_here, fixed_of, fixed_with, fixed_register, register}
 use Rattle.po_model.specs.declared.machine.Bounds.{Bounds}
 use Rattle.po_model.specs.declared.machine.PatReg.{PatReg}
 use Rattle.po_model.specs.declared.machine.PatTerm.{PatTerm}
 use Rattle.po_model.specs.declared.machine.PatTerm.TheVariants as pat
 use Rattle.po_model.specs.Patterns.{PatTree, pattern_of}
-use Rattle.po_model.specs.Entries.{Place, place, OfNum, HasRange, has_range, IsPatReg, reg_places, tree_places, HasPatNumbers}
+use Rattle.po_model.specs.Entries.{Place, place, OfNum, HasRange, has_range, IsPatReg, reg_places, tree_places}
+use Rattle.po_model.specs.Entries.{HasPatNumbers}
 use Rattle.po_entry.proofs.Layers.{reg_tree, num_tree, const_tree, addr_tree}
 use Rattle.po_entry.proofs.Told.{Tells, told_more}
 use Rattle.po_entry.proofs.Leaves.{Came, not_longer, mark_shorter, operand_took, operand_came, number_took}
@@ -37,7 +41,8 @@ pub record TookRange (fresh : Bool) (r : Rest) (seen : Operands) (x : Read (Opti
   pub short : length x.rest.bytes ≤ length r.bytes
 
 ordered : (column : ℕ) (low high : ℤ) (x : ⊤) → in_order column low high ≡ Ok x → int_le low high ≡ true
-ordered column low high x e = elim (chosen (int_le low high) _ _ _ e) [ inl (h, is) ↦ h | inr (h, is) ↦ absurd (not_ok is) ]
+ordered column low high x e = elim (chosen (int_le low high) _ _ _ e)
+    [ inl (h, is) ↦ h | inr (h, is) ↦ absurd (not_ok is) ]
 
 range_took : (r : Rest) (seen : Operands) (x : Read (Option Bounds)) → range r seen ≡ Ok x → TookRange true r seen x
 unfolding range
@@ -54,21 +59,43 @@ range_took r seen x e =
       fine = record { from = low.low; order = ordered r.column q.0.value t.0.value u.0 u.1; to = high.high };
       new = λ h. refl;
       noted = refl;
-      short = omega (arith, mark_shorter 91 r p.0 p.1, not_longer p.0, low.shorter, not_longer q.0.rest, mark_shorter 44 (skip_blanks q.0.rest) s.0 s.1, not_longer s.0, high.shorter, not_longer t.0.rest, mark_shorter 93 (skip_blanks t.0.rest) v.0 v.1);
+      short = omega (
+        arith,
+        mark_shorter 91 r p.0 p.1,
+        not_longer p.0,
+        low.shorter,
+        not_longer q.0.rest,
+        mark_shorter
+            44 (skip_blanks q.0.rest) s.0 s.1,
+        not_longer s.0,
+        high.shorter,
+        not_longer t.0.rest,
+        mark_shorter 93
+            (skip_blanks t.0.rest) v.0 v.1,
+      );
     })
 
-range_if_new : (column : ℕ) (new : Bool) (r : Rest) (seen : Operands) (x : Read (Option Bounds)) → cond new (range r seen) (Err (fault column kind.ListForm)) ≡ Ok x → TookRange new r seen x
+range_if_new : (column : ℕ) (new : Bool) (r : Rest) (seen : Operands) (x : Read (Option Bounds))
+    → cond new (range r seen) (Err (fault column kind.ListForm)) ≡ Ok x → TookRange new r seen x
 range_if_new column true r seen x e = range_took r seen x e
 range_if_new column false r seen x e = absurd (not_ok e)
 
-wider : (new : Bool) (r : Rest) (seen : Operands) (x : Read (Option Bounds)) → TookRange new (skip_blanks r) seen x → TookRange new r seen x
-wider new r seen x h = record { fine = h.fine; new = h.new; noted = h.noted; short = omega (arith, h.short, not_longer r) }
+wider : (new : Bool) (r : Rest) (seen : Operands) (x : Read (Option Bounds)) → TookRange new (skip_blanks r) seen x
+    → TookRange new r seen x
+wider new r seen x h = record {
+  fine = h.fine;
+  new = h.new;
+  noted = h.noted;
+  short = omega (arith, h.short, not_longer r);
+}
 
-pub range_behind_took : (column : ℕ) (new : Bool) (r : Rest) (seen : Operands) (x : Read (Option Bounds)) → range_behind column new r seen ≡ Ok x → TookRange new r seen x
+pub range_behind_took : (column : ℕ) (new : Bool) (r : Rest) (seen : Operands) (x : Read (Option Bounds))
+    → range_behind column new r seen ≡ Ok x → TookRange new r seen x
 unfolding range_behind
 range_behind_took column new r seen x e = elim (chosen (begins 91 (skip_blanks r).bytes) _ _ _ e) [
   | inl (h, is) ↦ wider new r seen x (range_if_new column new (skip_blanks r) seen x is)
-  | inr (h, is) ↦ subst (λ (y : Read (Option Bounds)). TookRange new r seen y) (ok_is is) (record { fine = tt; new = λ g. absurd (cc); noted = refl; short = omega arith })
+  | inr (h, is) ↦ subst (λ (y : Read (Option Bounds)). TookRange new r seen y) (ok_is is)
+      (record { fine = tt; new = λ g. absurd (cc); noted = refl; short = omega arith })
 ]
 
 -- a term without terms of its own
@@ -85,7 +112,8 @@ IsLeafAt t qs = IsLeafTree (pattern_of t) qs
 leaf_at : (t u : PatTree) (qs : List Place) → t ≡ u → IsLeafTree u qs → IsLeafTree t qs
 leaf_at t u qs e h = subst (λ (v : PatTree). IsLeafTree v qs) (sym e) h
 
-pub constant_came : (r : Rest) (seen : Operands) (x : Read PatTerm) (ps : List Place) → constant r seen ≡ Ok x → Tells seen ps → Came IsLeafAt ps r x
+pub constant_came : (r : Rest) (seen : Operands) (x : Read PatTerm) (ps : List Place) → constant r seen ≡ Ok x
+    → Tells seen ps → Came IsLeafAt ps r x
 unfolding constant
 constant_came r seen x ps e told =
     let p = bind_ok (operand Constant r seen) _ x e in
@@ -94,20 +122,36 @@ constant_came r seen x ps e told =
     let range = range_behind_took r.column (is_new (kind_of seen p.0.value)) p.0.rest p.0.seen q.0 q.1 in
     subst (λ (y : Read PatTerm). Came IsLeafAt ps r y) (ok_is q.2) (record {
       places = place p.0.value OfNum (has_range q.0.value) ∷ [];
-      has = leaf_at _ _ _ (const_tree p.0.value q.0.value) (record { is = refl; size = refl; depth = refl; numbers = record { consts = (took.small, range.fine); leaves = tt } });
-      told = subst (λ (s : Operands). Tells s (ps ++ place p.0.value OfNum (has_range q.0.value) ∷ [])) (sym (range.noted ∙ took.noted))
+      has = leaf_at _ _ _ (const_tree p.0.value q.0.value)
+          (record {
+            is = refl;
+            size = refl;
+            depth = refl;
+            numbers = record {
+              consts = (took.small, range.fine);
+              leaves = tt;
+            };
+          });
+      told = subst (λ (s : Operands). Tells s (ps ++ place p.0.value OfNum (has_range q.0.value) ∷ []))
+          (sym (range.noted ∙ took.noted))
           (told_more seen Constant p.0.value (has_range q.0.value) ps took.small took.may range.new told);
       shorter = omega (arith, took.shorter, range.short);
     })
 
-pub symbol_came : (r : Rest) (seen : Operands) (x : Read PatTerm) (ps : List Place) → symbol_address r seen ≡ Ok x → Tells seen ps → Came IsLeafAt ps r x
+pub symbol_came : (r : Rest) (seen : Operands) (x : Read PatTerm) (ps : List Place) → symbol_address r seen ≡ Ok x
+    → Tells seen ps → Came IsLeafAt ps r x
 unfolding symbol_address
 symbol_came r seen x ps e told =
     let p = bind_ok (operand Symbol r seen) _ x e in
     let came = operand_came Symbol r seen p.0 ps p.1 told in
     subst (λ (y : Read PatTerm). Came IsLeafAt ps r y) (ok_is p.2) (record {
       places = came.places;
-      has = leaf_at _ _ _ (addr_tree p.0.value) (record { is = came.has.is; size = refl; depth = refl; numbers = record { consts = tt; leaves = came.has.small } });
+      has = leaf_at _ _ _ (addr_tree p.0.value) (record {
+        is = came.has.is;
+        size = refl;
+        depth = refl;
+        numbers = record { consts = tt; leaves = came.has.small };
+      });
       told = came.told;
       shorter = came.shorter;
     })
@@ -120,14 +164,24 @@ small_word : (z : ℤ) → int_le z (pos 2147483647) ≡ true → word_of z < 2 
 small_word (pos n) h = let low : n ≤ 2147483647 = leb-true n 2147483647 h in omega arith
 small_word (negsuc n) h = omega arith
 
-pub numeral_came : (r : Rest) (seen : Operands) (x : Read PatTerm) (ps : List Place) → numeral r seen ≡ Ok x → Tells seen ps → Came IsLeafAt ps r x
+pub numeral_came : (r : Rest) (seen : Operands) (x : Read PatTerm) (ps : List Place) → numeral r seen ≡ Ok x
+    → Tells seen ps → Came IsLeafAt ps r x
 unfolding numeral
 numeral_came r seen x ps e told =
     let p = bind_ok (number r seen) _ x e in
     let took = number_took r seen p.0 p.1 in
     subst (λ (y : Read PatTerm). Came IsLeafAt ps r y) (ok_is p.2) (record {
       places = [];
-      has = leaf_at _ _ _ (num_tree (word_of p.0.value)) (record { is = refl; size = refl; depth = refl; numbers = record { consts = small_word p.0.value took.high; leaves = tt } });
+      has = leaf_at _ _ _ (num_tree (word_of p.0.value))
+          (record {
+            is = refl;
+            size = refl;
+            depth = refl;
+            numbers = record {
+              consts = small_word p.0.value took.high;
+              leaves = tt;
+            };
+          });
       told = subst (λ (s : Operands). Tells s (ps ++ [])) (sym took.noted) (none_more seen ps told);
       shorter = took.shorter;
     })
@@ -138,7 +192,8 @@ pub record IsRegAt (x : PatReg) (qs : List Place) : Type 0 where
   pub is : qs ≡ reg_places x
   pub fine : IsPatReg x
 
-any_came : (r : Rest) (seen : Operands) (x : Read PatReg) (ps : List Place) → any_register r seen ≡ Ok x → Tells seen ps → Came IsRegAt ps r x
+any_came : (r : Rest) (seen : Operands) (x : Read PatReg) (ps : List Place) → any_register r seen ≡ Ok x
+    → Tells seen ps → Came IsRegAt ps r x
 unfolding any_register
 any_came r seen x ps e told =
     let p = bind_ok (operand Register r seen) _ x e in
@@ -150,7 +205,8 @@ any_came r seen x ps e told =
       shorter = came.shorter;
     })
 
-this_or : (b : Bool) (s r : Reg) (other : Option Reg) → cond b (Some s) other ≡ Some r → IsFixed s → (other ≡ Some r → IsFixed r) → IsFixed r
+this_or : (b : Bool) (s r : Reg) (other : Option Reg) → cond b (Some s) other ≡ Some r → IsFixed s
+    → (other ≡ Some r → IsFixed r) → IsFixed r
 this_or true s r other e h k = let same : s ≡ r = cc in let P : Reg → Type 0 = λ x. IsFixed x in subst P same h
 this_or false s r other e h k = k e
 
@@ -168,7 +224,8 @@ named zero bs r e = absurd (cc)
 named (suc n) [] r e = absurd (cc)
 named (suc n) (b ∷ bs) r e = (omega arith, omega arith)
 
-fixed_found : (r : Rest) (seen : Operands) (x : Read PatReg) (ps : List Place) (found : Option Reg) → fixed_of (name_here r) ≡ found → fixed_with r seen found ≡ Ok x → Tells seen ps → Came IsRegAt ps r x
+fixed_found : (r : Rest) (seen : Operands) (x : Read PatReg) (ps : List Place) (found : Option Reg)
+    → fixed_of (name_here r) ≡ found → fixed_with r seen found ≡ Ok x → Tells seen ps → Came IsRegAt ps r x
 fixed_found r seen x ps None h e told = absurd (not_ok e)
 fixed_found r seen x ps (Some s) h e told = let some = named (prefix_len is_name_byte r.bytes) r.bytes s h in
     subst (λ (y : Read PatReg). Came IsRegAt ps r y) (ok_is e) (record {
@@ -178,11 +235,13 @@ fixed_found r seen x ps (Some s) h e told = let some = named (prefix_len is_name
       shorter = simp length-drop (omega (arith, some.0, some.1));
     })
 
-pub fixed_came : (r : Rest) (seen : Operands) (x : Read PatReg) (ps : List Place) → fixed_register r seen ≡ Ok x → Tells seen ps → Came IsRegAt ps r x
+pub fixed_came : (r : Rest) (seen : Operands) (x : Read PatReg) (ps : List Place) → fixed_register r seen ≡ Ok x
+    → Tells seen ps → Came IsRegAt ps r x
 unfolding fixed_register
 fixed_came r seen x ps e told = fixed_found r seen x ps (fixed_of (name_here r)) refl e told
 
-pub register_came : (r : Rest) (seen : Operands) (x : Read PatReg) (ps : List Place) → register r seen ≡ Ok x → Tells seen ps → Came IsRegAt ps r x
+pub register_came : (r : Rest) (seen : Operands) (x : Read PatReg) (ps : List Place) → register r seen ≡ Ok x
+    → Tells seen ps → Came IsRegAt ps r x
 unfolding register
 register_came r seen x ps e told = elim (chosen (begins 37 r.bytes) _ _ _ e) [
   | inl (h, is) ↦ any_came r seen x ps is told
@@ -190,13 +249,20 @@ register_came r seen x ps e told = elim (chosen (begins 37 r.bytes) _ _ _ e) [
 ]
 
 -- a register as a term
-pub register_leaf : (r : Rest) (x : Read PatReg) (ps : List Place) → Came IsRegAt ps r x → Came IsLeafAt ps r (record { value = pat.Reg x.value; rest = x.rest; seen = x.seen })
+pub register_leaf : (r : Rest) (x : Read PatReg) (ps : List Place) → Came IsRegAt ps r x → Came IsLeafAt ps r
+    (record { value = pat.Reg x.value; rest = x.rest; seen = x.seen })
 register_leaf r x ps came = record {
   places = came.places;
-  has = leaf_at _ _ _ (reg_tree x.value) (record { is = came.has.is; size = refl; depth = refl; numbers = record { consts = tt; leaves = came.has.fine } });
+  has = leaf_at _ _ _ (reg_tree x.value) (record {
+    is = came.has.is;
+    size = refl;
+    depth = refl;
+    numbers = record { consts = tt; leaves = came.has.fine };
+  });
   told = came.told;
   shorter = came.shorter;
 }
 
-pub any_leaf : (r : Rest) (seen : Operands) (x : Read PatReg) (ps : List Place) → any_register r seen ≡ Ok x → Tells seen ps → Came IsLeafAt ps r (record { value = pat.Reg x.value; rest = x.rest; seen = x.seen })
+pub any_leaf : (r : Rest) (seen : Operands) (x : Read PatReg) (ps : List Place) → any_register r seen ≡ Ok x
+    → Tells seen ps → Came IsLeafAt ps r (record { value = pat.Reg x.value; rest = x.rest; seen = x.seen })
 any_leaf r seen x ps e told = register_leaf r x ps (any_came r seen x ps e told)

@@ -1,6 +1,8 @@
 -- What was read where a whole term stands. The parts that are open have the places that were read in them, from the
 -- outermost on; a part beyond the limits has some.
-use Rattle.std.proofs.Common.{◌≡◌, ℕ, ◌+◌, ◌<◌, ◌≤◌, ◌==◌, ◌&&◌, true, false, nat_le, max, List, [], ◌∷◌, ◌++◌, length, refl, sym, ap, ◌∙◌, subst, arith, zero, suc, Option, Some, None, Ok, ◌⊎◌, inl, inr, append_assoc, leb-true}
+use Rattle.std.proofs.Common.{◌≡◌, ℕ, ◌+◌, ◌<◌, ◌≤◌, ◌==◌, ◌&&◌, true, false, nat_le, max, List, [], ◌∷◌, ◌++◌}
+use Rattle.std.proofs.Common.{length, refl, sym, ap, ◌∙◌, subst, arith, zero, suc, Option, Some, None, Ok, ◌⊎◌, inl}
+use Rattle.std.proofs.Common.{inr, append_assoc, leb-true}
 use Rattle.std.specs.Prelude.{cond, codes, ⊤}
 use Rattle.std.specs.List.{prefix_len}
 use Rattle.std.specs.Option.{option_map}
@@ -22,7 +24,10 @@ use Rattle.po_pattern.specs.declared.part.Turn.{Turn}
 use Rattle.po_pattern.specs.declared.part.Turn.TheVariants.{Opens, Whole}
 use Rattle.po_pattern.specs.Rests.{Rest, Read, behind, skip_blanks, mark}
 use Rattle.po_pattern.specs.Parts.{any_register, fixed_register, name_here}
-use Rattle.po_pattern.specs.Terms.{kept, memory_part, unary_part, binary_part, leaf, marked_leaf, opening, bracket, named_with, named, begins_leaf, wanted_with, wanted, operator_of, operator_length, operator_with, operator, closed, behind_whole, Reading, whole_with, is_whole, step_with, step, steps, whole_of, term, address}
+use Rattle.po_pattern.specs.Terms.{kept, memory_part, unary_part, binary_part, leaf, marked_leaf, opening, bracket}
+use Rattle.po_pattern.specs.Terms.{named_with, named, begins_leaf, wanted_with, wanted, operator_of, operator_length}
+use Rattle.po_pattern.specs.Terms.{operator_with, operator, closed, behind_whole, Reading, whole_with, is_whole}
+use Rattle.po_pattern.specs.Terms.{step_with, step, steps, whole_of, term, address}
 use Rattle.po_model.specs.declared.machine.PatTerm.{PatTerm}
 use Rattle.po_model.specs.declared.machine.PatTerm.TheVariants as pat
 use Rattle.po_model.specs.Patterns.{PatTree, pattern_of}
@@ -30,7 +35,8 @@ use Rattle.po_model.specs.Entries.{Place, tree_places, IsPatTree, HasPatNumbers}
 use Rattle.po_entry.proofs.Told.{Tells}
 use Rattle.po_entry.proofs.Leaves.{Came, not_longer, mark_shorter}
 use Rattle.po_entry.proofs.Layers.{mem_tree, un_tree, bin_tree}
-use Rattle.po_entry.proofs.Parts.{IsLeafAt, constant_came, symbol_came, numeral_came, any_leaf, fixed_came, register_leaf, none_more}
+use Rattle.po_entry.proofs.Parts.{IsLeafAt, constant_came, symbol_came, numeral_came, any_leaf, fixed_came}
+use Rattle.po_entry.proofs.Parts.{register_leaf, none_more}
 
 -- a term within the limits, and its places
 pub record IsTreeAt (t : PatTree) (qs : List Place) : Type 0 where
@@ -62,38 +68,59 @@ StackHas (f ∷ fs) qs = (cs : List Place) × (bs : List Place) × StackHas fs c
 
 -- parts
 
-kept_has : (term : PatTerm) (u : PatTree) (size depth : ℕ) (qs : List Place) → pattern_of term ≡ u → qs ≡ tree_places u → size ≡ tree_size u → depth ≡ tree_depth u → HasPatNumbers u → PartHas (kept term size depth) qs
-kept_has term u size depth qs e is s d numbers = elim (nat_le size 64 && nat_le depth 16) as (λ b. (nat_le size 64 && nat_le depth 16) ≡ b → PartHas (cond b (Some (record { term = term; size = size; depth = depth })) None) qs) [
-  | true ↦ (λ h. let parts = and_parts (nat_le size 64) (nat_le depth 16) h in
-      let few : size ≤ 64 = leb-true _ _ parts.0 in
-      let flat : depth ≤ 16 = leb-true _ _ parts.1 in
-      record {
-        size = s ∙ ap tree_size (sym e);
-        depth = d ∙ ap tree_depth (sym e);
-        tree = subst (λ (v : PatTree). IsTreeAt v qs) (sym e) (record { is = is; fine = record { size = omega (arith, s, few); depth = omega (arith, d, flat); numbers = numbers } });
-      })
-  | false ↦ (λ h. tt)
-] refl
+kept_has : (term : PatTerm) (u : PatTree) (size depth : ℕ) (qs : List Place) → pattern_of term ≡ u
+    → qs ≡ tree_places u → size ≡ tree_size u → depth ≡ tree_depth u → HasPatNumbers u
+    → PartHas (kept term size depth) qs
+kept_has term u size depth qs e is s d numbers = elim (nat_le size 64 && nat_le depth 16)
+    as (λ b. (nat_le size 64 && nat_le depth 16) ≡ b → PartHas
+    (cond b (Some (record { term = term; size = size; depth = depth })) None) qs) [
+      | true ↦ (λ h. let parts = and_parts (nat_le size 64) (nat_le depth 16) h in
+          let few : size ≤ 64 = leb-true _ _ parts.0 in
+          let flat : depth ≤ 16 = leb-true _ _ parts.1 in
+          record {
+            size = s ∙ ap tree_size (sym e);
+            depth = d ∙ ap tree_depth (sym e);
+            tree = subst (λ (v : PatTree). IsTreeAt v qs) (sym e)
+                (record {
+                  is = is;
+                  fine = record {
+                    size = omega (arith, s, few);
+                    depth = omega (arith, d, flat);
+                    numbers = numbers;
+                  };
+                });
+          })
+      | false ↦ (λ h. tt)
+    ] refl
 
 memory_has : (part : Option Part) (qs : List Place) → PartHas part qs → PartHas (memory_part part) qs
 memory_has None qs h = tt
-memory_has (Some p) qs h = kept_has (pat.Mem p.term) (Memory (pattern_of p.term)) (p.size + 1) (p.depth + 1) qs (mem_tree p.term) h.tree.is (omega (arith, h.size)) (omega (arith, h.depth))
+memory_has (Some p) qs h = kept_has (pat.Mem p.term) (Memory (pattern_of p.term)) (p.size + 1) (p.depth + 1) qs
+    (mem_tree p.term) h.tree.is (omega (arith, h.size)) (omega (arith, h.depth))
     (record { consts = h.tree.fine.numbers.consts; leaves = h.tree.fine.numbers.leaves })
 
 unary_has : (o : Un) (part : Option Part) (qs : List Place) → PartHas part qs → PartHas (unary_part o part) qs
 unary_has o None qs h = tt
-unary_has o (Some p) qs h = kept_has (pat.Un o p.term) (Unary o (pattern_of p.term)) (p.size + 1) (p.depth + 1) qs (un_tree o p.term) h.tree.is (omega (arith, h.size)) (omega (arith, h.depth))
+unary_has o (Some p) qs h = kept_has (pat.Un o p.term) (Unary o (pattern_of p.term)) (p.size + 1) (p.depth + 1) qs
+    (un_tree o p.term) h.tree.is (omega (arith, h.size)) (omega (arith, h.depth))
     (record { consts = h.tree.fine.numbers.consts; leaves = h.tree.fine.numbers.leaves })
 
-both_places : (cs bs : List Place) (t u : PatTree) → cs ≡ tree_places t → bs ≡ tree_places u → cs ++ bs ≡ tree_places t ++ tree_places u
+both_places : (cs bs : List Place) (t u : PatTree) → cs ≡ tree_places t → bs ≡ tree_places u → cs ++ bs ≡ tree_places
+    t ++ tree_places u
 both_places cs bs t u e h = ap (λ (x : List Place). x ++ bs) e ∙ ap (λ (x : List Place). tree_places t ++ x) h
 
-binary_has : (o : Bin) (left right : Option Part) (cs bs : List Place) → PartHas left cs → PartHas right bs → PartHas (binary_part o left right) (cs ++ bs)
+binary_has : (o : Bin) (left right : Option Part) (cs bs : List Place) → PartHas left cs → PartHas right bs
+    → PartHas (binary_part o left right) (cs ++ bs)
 binary_has o None right cs bs h g = tt
 binary_has o (Some p) None cs bs h g = tt
-binary_has o (Some p) (Some q) cs bs h g = kept_has (pat.Bin o p.term q.term) (Binary o (pattern_of p.term) (pattern_of q.term)) (p.size + (q.size + 1)) (max p.depth q.depth + 1) (cs ++ bs)
-    (bin_tree o p.term q.term) (both_places cs bs (pattern_of p.term) (pattern_of q.term) h.tree.is g.tree.is) (omega (arith, h.size, g.size)) (omega (arith, h.depth, g.depth))
-    (record { consts = (h.tree.fine.numbers.consts, g.tree.fine.numbers.consts); leaves = (h.tree.fine.numbers.leaves, g.tree.fine.numbers.leaves) })
+binary_has o (Some p) (Some q) cs bs h g = kept_has (pat.Bin o p.term q.term)
+    (Binary o (pattern_of p.term) (pattern_of q.term)) (p.size + (q.size + 1)) (max p.depth q.depth + 1) (cs ++ bs)
+    (bin_tree o p.term q.term) (both_places cs bs (pattern_of p.term) (pattern_of q.term) h.tree.is g.tree.is)
+    (omega (arith, h.size, g.size)) (omega (arith, h.depth, g.depth))
+    (record {
+      consts = (h.tree.fine.numbers.consts, g.tree.fine.numbers.consts);
+      leaves = (h.tree.fine.numbers.leaves, g.tree.fine.numbers.leaves);
+    })
 
 -- what may stand where a term is wanted
 
@@ -103,13 +130,21 @@ leaf_turn r x ps came = record {
   has = record {
     size = sym came.has.size;
     depth = sym came.has.depth;
-    tree = record { is = came.has.is; fine = record { size = omega (arith, came.has.size); depth = omega (arith, came.has.depth); numbers = came.has.numbers } };
+    tree = record {
+      is = came.has.is;
+      fine = record {
+        size = omega (arith, came.has.size);
+        depth = omega (arith, came.has.depth);
+        numbers = came.has.numbers;
+      };
+    };
   };
   told = came.told;
   shorter = came.shorter;
 }
 
-marked_came : (byte : ℕ) (r : Rest) (seen : Operands) (x : Read PatTerm) (ps : List Place) → marked_leaf byte r seen ≡ Ok x → Tells seen ps → Came IsLeafAt ps r x
+marked_came : (byte : ℕ) (r : Rest) (seen : Operands) (x : Read PatTerm) (ps : List Place) → marked_leaf byte r seen
+    ≡ Ok x → Tells seen ps → Came IsLeafAt ps r x
 unfolding marked_leaf
 marked_came byte r seen x ps e told = elim (chosen (byte == 37) _ _ _ e) [
   | inl (h, is) ↦ (let p = bind_ok (any_register r seen) _ x is in
@@ -135,14 +170,17 @@ opened_empty name f e = elim (chosen (same name (codes "M")) _ _ _ e) [
   ]
 ]
 
-named_came : (r : Rest) (seen : Operands) (x : Read Turn) (ps : List Place) (found : Option Frame) → opening (name_here r) ≡ found → named_with r seen found ≡ Ok x → Tells seen ps → Came TurnHas ps r x
+named_came : (r : Rest) (seen : Operands) (x : Read Turn) (ps : List Place) (found : Option Frame)
+    → opening (name_here r) ≡ found → named_with r seen found ≡ Ok x → Tells seen ps → Came TurnHas ps r x
 named_came r seen x ps None h e told =
     let p = bind_ok (fixed_register r seen) _ x e in
-    subst (λ (y : Read Turn). Came TurnHas ps r y) (ok_is p.2) (leaf_turn r _ ps (register_leaf r p.0 ps (fixed_came r seen p.0 ps p.1 told)))
+    subst (λ (y : Read Turn). Came TurnHas ps r y) (ok_is p.2)
+    (leaf_turn r _ ps (register_leaf r p.0 ps (fixed_came r seen p.0 ps p.1 told)))
 named_came r seen x ps (Some f) h e told =
     let n = prefix_len is_name_byte r.bytes in
     let p = bind_ok (mark (bracket f) (skip_blanks (behind n r))) _ x e in
-    let shorter : length p.0.bytes < length (skip_blanks (behind n r)).bytes = mark_shorter (bracket f) (skip_blanks (behind n r)) p.0 p.1 in
+    let shorter : length p.0.bytes < length (skip_blanks (behind n r)).bytes =
+    mark_shorter (bracket f) (skip_blanks (behind n r)) p.0 p.1 in
     let within : length (behind n r).bytes ≤ length r.bytes = simp length-drop (omega arith) in
     subst (λ (y : Read Turn). Came TurnHas ps r y) (ok_is p.2) (record {
       places = [];
@@ -151,21 +189,31 @@ named_came r seen x ps (Some f) h e told =
       shorter = omega (arith, shorter, within, not_longer (behind n r));
     })
 
-wanted_found : (r : Rest) (seen : Operands) (x : Read Turn) (ps : List Place) (bs : List ℕ) → r.bytes ≡ bs → wanted_with r seen bs ≡ Ok x → Tells seen ps → Came TurnHas ps r x
+wanted_found : (r : Rest) (seen : Operands) (x : Read Turn) (ps : List Place) (bs : List ℕ) → r.bytes ≡ bs
+    → wanted_with r seen bs ≡ Ok x → Tells seen ps → Came TurnHas ps r x
 unfolding named
 wanted_found r seen x ps [] b e told = absurd (not_ok e)
 wanted_found r seen x ps (c ∷ bs) b e told =
     let long : length r.bytes ≡ length (c ∷ bs) = ap length b in
     elim (chosen (c == 40) _ _ _ e) [
-      | inl (h, is) ↦ subst (λ (y : Read Turn). Came TurnHas ps r y) (ok_is is) (record { places = []; has = refl; told = none_more seen ps told; shorter = simp length-drop (omega (arith, long)) })
+      | inl (h, is) ↦ subst (λ (y : Read Turn). Came TurnHas ps r y) (ok_is is)
+          (record {
+            places = [];
+            has = refl;
+            told = none_more seen ps told;
+            shorter = simp length-drop
+                (omega (arith, long));
+          })
       | inr (h, is) ↦ elim (chosen (begins_leaf c) _ _ _ is) [
         | inl (g, at) ↦ (let p = bind_ok (marked_leaf c r seen) _ x at in
-            subst (λ (y : Read Turn). Came TurnHas ps r y) (ok_is p.2) (leaf_turn r p.0 ps (marked_came c r seen p.0 ps p.1 told)))
+            subst (λ (y : Read Turn). Came TurnHas ps r y) (ok_is p.2)
+            (leaf_turn r p.0 ps (marked_came c r seen p.0 ps p.1 told)))
         | inr (g, at) ↦ named_came r seen x ps (opening (name_here r)) refl at told
       ]
     ]
 
-pub wanted_came : (r : Rest) (seen : Operands) (x : Read Turn) (ps : List Place) → wanted r seen ≡ Ok x → Tells seen ps → Came TurnHas ps r x
+pub wanted_came : (r : Rest) (seen : Operands) (x : Read Turn) (ps : List Place) → wanted r seen ≡ Ok x
+    → Tells seen ps → Came TurnHas ps r x
 unfolding wanted
 wanted_came r seen x ps e told = wanted_found r seen x ps r.bytes refl e told
 
@@ -176,11 +224,13 @@ pub record Behind (r : Rest) (seen : Operands) (qs : List Place) (x : Read Turn)
   pub noted : x.seen ≡ seen
   pub shorter : length x.rest.bytes < length r.bytes
 
-closed_behind : (byte : ℕ) (part : Option Part) (r : Rest) (seen : Operands) (qs : List Place) (x : Read Turn) → closed byte part r seen ≡ Ok x → PartHas part qs → Behind r seen qs x
+closed_behind : (byte : ℕ) (part : Option Part) (r : Rest) (seen : Operands) (qs : List Place) (x : Read Turn)
+    → closed byte part r seen ≡ Ok x → PartHas part qs → Behind r seen qs x
 unfolding closed
 closed_behind byte part r seen qs x e has =
     let p = bind_ok (mark byte r) _ x e in
-    subst (λ (y : Read Turn). Behind r seen qs y) (ok_is p.2) (record { has = has; noted = refl; shorter = mark_shorter byte r p.0 p.1 })
+    subst (λ (y : Read Turn). Behind r seen qs y) (ok_is p.2)
+    (record { has = has; noted = refl; shorter = mark_shorter byte r p.0 p.1 })
 
 one_byte : (o : Bin) → 0 < operator_length o
 one_byte Add = omega arith
@@ -197,17 +247,29 @@ some_operator : (bs : List ℕ) (o : Bin) → operator_of bs ≡ Some o → 0 < 
 some_operator [] o e = absurd (cc)
 some_operator (b ∷ bs) o e = omega arith
 
-operator_found : (left : Option Part) (r : Rest) (seen : Operands) (qs : List Place) (x : Read Turn) (found : Option Bin) → operator_of r.bytes ≡ found → operator_with left r seen found ≡ Ok x → PartHas left qs → Behind r seen qs x
+operator_found : (left : Option Part) (r : Rest) (seen : Operands) (qs : List Place) (x : Read Turn)
+    (found : Option Bin) → operator_of r.bytes ≡ found → operator_with left r seen found ≡ Ok x → PartHas left qs
+    → Behind r seen qs x
 operator_found left r seen qs x None h e has = absurd (not_ok e)
 operator_found left r seen qs x (Some o) h e has = subst (λ (y : Read Turn). Behind r seen qs y) (ok_is e)
-    (record { has = has; noted = refl; shorter = simp length-drop (omega (arith, one_byte o, some_operator r.bytes o h)) })
+    (record {
+      has = has;
+      noted = refl;
+      shorter = simp length-drop
+          (omega (arith, one_byte o, some_operator r.bytes o h));
+    })
 
-behind_came : (f : Frame) (part : Option Part) (r : Rest) (seen : Operands) (x : Read Turn) (bs qs : List Place) → behind_whole f part r seen ≡ Ok x → FrameHas f bs → PartHas part qs → Behind r seen (bs ++ qs) x
+behind_came : (f : Frame) (part : Option Part) (r : Rest) (seen : Operands) (x : Read Turn) (bs qs : List Place)
+    → behind_whole f part r seen ≡ Ok x → FrameHas f bs → PartHas part qs → Behind r seen (bs ++ qs) x
 unfolding behind_whole operator
-behind_came frame.Memory part r seen x bs qs e f h = closed_behind 93 (memory_part part) r seen (bs ++ qs) x e (subst (λ (cs : List Place). PartHas (memory_part part) (cs ++ qs)) (sym f) (memory_has part qs h))
-behind_came (frame.Unary o) part r seen x bs qs e f h = closed_behind 41 (unary_part o part) r seen (bs ++ qs) x e (subst (λ (cs : List Place). PartHas (unary_part o part) (cs ++ qs)) (sym f) (unary_has o part qs h))
-behind_came frame.Left part r seen x bs qs e f h = operator_found part r seen (bs ++ qs) x (operator_of r.bytes) refl e (subst (λ (cs : List Place). PartHas part (cs ++ qs)) (sym f) h)
-behind_came (frame.Right o left) part r seen x bs qs e f h = closed_behind 41 (binary_part o left part) r seen (bs ++ qs) x e (binary_has o left part bs qs f h)
+behind_came frame.Memory part r seen x bs qs e f h = closed_behind 93 (memory_part part) r seen (bs ++ qs) x e
+    (subst (λ (cs : List Place). PartHas (memory_part part) (cs ++ qs)) (sym f) (memory_has part qs h))
+behind_came (frame.Unary o) part r seen x bs qs e f h = closed_behind 41 (unary_part o part) r seen (bs ++ qs) x e
+    (subst (λ (cs : List Place). PartHas (unary_part o part) (cs ++ qs)) (sym f) (unary_has o part qs h))
+behind_came frame.Left part r seen x bs qs e f h = operator_found part r seen (bs ++ qs) x (operator_of r.bytes) refl
+    e (subst (λ (cs : List Place). PartHas part (cs ++ qs)) (sym f) h)
+behind_came (frame.Right o left) part r seen x bs qs e f h = closed_behind 41 (binary_part o left part) r seen
+    (bs ++ qs) x e (binary_has o left part bs qs f h)
 
 -- one part more
 
@@ -225,7 +287,9 @@ pub record Stepped (ps : List Place) (s t : Reading) : Type 0 where
 abbrev at_turn : List Frame → Turn → Rest → Operands → Reading
 at_turn frames turn r seen = record { frames = frames; turn = record { value = turn; rest = r; seen = seen } }
 
-stepped : (ps : List Place) (frames : List Frame) (turn : Turn) (r : Rest) (seen : Operands) (t : Reading) → step_with frames turn r seen ≡ Ok t → Going ps (at_turn frames turn r seen) → Stepped ps (at_turn frames turn r seen) t
+stepped : (ps : List Place) (frames : List Frame) (turn : Turn) (r : Rest) (seen : Operands) (t : Reading)
+    → step_with frames turn r seen ≡ Ok t → Going ps (at_turn frames turn r seen)
+    → Stepped ps (at_turn frames turn r seen) t
 stepped ps frames (Opens f) r seen t e g =
     let p = bind_ok (wanted (skip_blanks r) seen) _ t e in
     let came = wanted_came (skip_blanks r) seen p.0 (ps ++ (g.outer ++ g.inner)) p.1 g.told in
@@ -235,7 +299,8 @@ stepped ps frames (Opens f) r seen t e g =
         inner = came.places;
         stack = (g.outer, g.inner, g.stack, g.turn, refl);
         turn = came.has;
-        told = subst (λ (qs : List Place). Tells p.0.seen qs) (append_assoc ps (g.outer ++ g.inner) came.places) came.told;
+        told = subst (λ (qs : List Place). Tells p.0.seen qs) (append_assoc ps (g.outer ++ g.inner) came.places)
+            came.told;
       };
       less = inr (omega (arith, came.shorter, not_longer r));
     })
@@ -249,14 +314,16 @@ stepped ps (f ∷ fs) (Whole part) r seen t e g =
     let cs = g.stack.0 in
     let bs = g.stack.1 in
     let came = behind_came f part (skip_blanks r) seen p.0 bs g.inner p.1 g.stack.3 g.turn in
-    let same : g.outer ++ g.inner ≡ cs ++ (bs ++ g.inner) = ap (λ (x : List Place). x ++ g.inner) g.stack.4 ∙ append_assoc cs bs g.inner in
+    let same : g.outer ++ g.inner ≡ cs ++ (bs ++ g.inner) = ap (λ (x : List Place). x ++ g.inner) g.stack.4
+    ∙ append_assoc cs bs g.inner in
     subst (λ (u : Reading). Stepped ps (at_turn (f ∷ fs) (Whole part) r seen) u) (ok_is p.2) (record {
       going = record {
         outer = cs;
         inner = bs ++ g.inner;
         stack = g.stack.2;
         turn = came.has;
-        told = subst (λ (s : Operands). Tells s (ps ++ (cs ++ (bs ++ g.inner)))) (sym came.noted) (subst (λ (x : List Place). Tells seen (ps ++ x)) same g.told);
+        told = subst (λ (s : Operands). Tells s (ps ++ (cs ++ (bs ++ g.inner)))) (sym came.noted)
+            (subst (λ (x : List Place). Tells seen (ps ++ x)) same g.told);
       };
       less = inr (omega (arith, came.shorter, not_longer r));
     })
@@ -270,7 +337,8 @@ pub record Ended (ps : List Place) (t : Reading) : Type 0 where
   pub whole : is_whole t ≡ true
 
 -- each part takes a byte, so the term is whole behind as many parts as bytes were left
-ended_from : (ps : List Place) (n : ℕ) (s t : Reading) → steps n s ≡ Ok t → (length s.turn.rest.bytes < n) ⊎ (is_whole s ≡ true) → Going ps s → Ended ps t
+ended_from : (ps : List Place) (n : ℕ) (s t : Reading) → steps n s ≡ Ok t → (length s.turn.rest.bytes < n)
+    ⊎ (is_whole s ≡ true) → Going ps s → Ended ps t
 unfolding steps step
 ended_from ps zero s t e (inl h) g = absurd (omega (arith, h))
 ended_from ps zero s t e (inr h) g = subst (λ (u : Reading). Ended ps u) (ok_is e) (record { going = g; whole = h })
@@ -279,13 +347,16 @@ ended_from ps (suc n) s t e h g =
     let next = one_step ps s p.0 p.1 g in
     ended_from ps n p.0 t p.2 (left_over n s p.0 h (still_whole s p.0 p.1) next.less) next.going
   where
-    left_over : (n : ℕ) (s u : Reading) → (length s.turn.rest.bytes < suc n) ⊎ (is_whole s ≡ true) → (is_whole s ≡ true → is_whole u ≡ true)
-        → (is_whole s ≡ true) ⊎ (length u.turn.rest.bytes < length s.turn.rest.bytes) → (length u.turn.rest.bytes < n) ⊎ (is_whole u ≡ true)
+    left_over : (n : ℕ) (s u : Reading) → (length s.turn.rest.bytes < suc n) ⊎ (is_whole s ≡ true)
+        → (is_whole s ≡ true → is_whole u ≡ true)
+        → (is_whole s ≡ true) ⊎ (length u.turn.rest.bytes < length s.turn.rest.bytes) → (length u.turn.rest.bytes < n)
+        ⊎ (is_whole u ≡ true)
     left_over n s u h w (inl k) = inr (w k)
     left_over n s u (inr k) w (inr l) = inr (w k)
     left_over n s u (inl k) w (inr l) = inl (omega (arith, k, l))
 
-    whole_on : (frames : List Frame) (turn : Turn) (r : Rest) (seen : Operands) (u : Reading) → step_with frames turn r seen ≡ Ok u → whole_with frames turn ≡ true → is_whole u ≡ true
+    whole_on : (frames : List Frame) (turn : Turn) (r : Rest) (seen : Operands) (u : Reading) → step_with frames turn
+        r seen ≡ Ok u → whole_with frames turn ≡ true → is_whole u ≡ true
     whole_on frames (Opens f) r seen u e h = absurd (cc)
     whole_on [] (Whole part) r seen u e h = subst (λ (v : Reading). is_whole v ≡ true) (ok_is e) refl
     whole_on (f ∷ fs) (Whole part) r seen u e h = absurd (cc)
@@ -303,29 +374,37 @@ part_term : (part : Option Part) (qs : List Place) → PartHas part qs → TermH
 part_term None qs h = tt
 part_term (Some p) qs h = h.tree
 
-whole_at : (ps : List Place) (frames : List Frame) (turn : Turn) (seen : Operands) (outer inner : List Place) → whole_with frames turn ≡ true → StackHas frames outer → TurnHas turn inner
+whole_at : (ps : List Place) (frames : List Frame) (turn : Turn) (seen : Operands) (outer inner : List Place)
+    → whole_with frames turn ≡ true → StackHas frames outer → TurnHas turn inner
     → Tells seen (ps ++ (outer ++ inner)) → TermHas (whole_of turn) inner × Tells seen (ps ++ inner)
 whole_at ps frames (Opens f) seen outer inner w s h t = absurd (cc)
-whole_at ps [] (Whole part) seen outer inner w s h t = (part_term part inner h, subst (λ (qs : List Place). Tells seen (ps ++ (qs ++ inner))) s t)
+whole_at ps [] (Whole part) seen outer inner w s h t =
+    (part_term part inner h, subst (λ (qs : List Place). Tells seen (ps ++ (qs ++ inner))) s t)
 whole_at ps (f ∷ fs) (Whole part) seen outer inner w s h t = absurd (cc)
 
-pub term_came : (r : Rest) (seen : Operands) (x : Read (Option PatTerm)) (ps : List Place) → term r seen ≡ Ok x → Tells seen ps → (qs : List Place) × TermHas x.value qs × Tells x.seen (ps ++ qs)
+pub term_came : (r : Rest) (seen : Operands) (x : Read (Option PatTerm)) (ps : List Place) → term r seen ≡ Ok x
+    → Tells seen ps → (qs : List Place) × TermHas x.value qs × Tells x.seen (ps ++ qs)
 unfolding term
 term_came r seen x ps e told =
     let p = bind_ok (wanted (skip_blanks r) seen) _ x e in
     let q = bind_ok (steps (length r.bytes) (record { frames = []; turn = p.0 })) _ x p.2 in
     let came = wanted_came (skip_blanks r) seen p.0 ps p.1 told in
-    let ended = ended_from ps (length r.bytes) (record { frames = []; turn = p.0 }) q.0 q.1 (inl (omega (arith, came.shorter, not_longer r)))
+    let ended = ended_from ps (length r.bytes) (record { frames = []; turn = p.0 }) q.0 q.1
+    (inl (omega (arith, came.shorter, not_longer r)))
     (record { outer = []; inner = came.places; stack = refl; turn = came.has; told = came.told }) in
-    let last = whole_at ps q.0.frames q.0.turn.value q.0.turn.seen ended.going.outer ended.going.inner ended.whole ended.going.stack ended.going.turn ended.going.told in
-    subst (λ (y : Read (Option PatTerm)). (qs : List Place) × TermHas y.value qs × Tells y.seen (ps ++ qs)) (ok_is q.2) (ended.going.inner, last.0, last.1)
+    let last = whole_at ps q.0.frames q.0.turn.value q.0.turn.seen ended.going.outer ended.going.inner ended.whole
+    ended.going.stack ended.going.turn ended.going.told in
+    subst (λ (y : Read (Option PatTerm)). (qs : List Place) × TermHas y.value qs × Tells y.seen (ps ++ qs))
+    (ok_is q.2) (ended.going.inner, last.0, last.1)
 
-pub address_came : (r : Rest) (seen : Operands) (x : Read (Option PatTerm)) (ps : List Place) → address r seen ≡ Ok x → Tells seen ps → (qs : List Place) × TermHas x.value qs × Tells x.seen (ps ++ qs)
+pub address_came : (r : Rest) (seen : Operands) (x : Read (Option PatTerm)) (ps : List Place) → address r seen ≡ Ok x
+    → Tells seen ps → (qs : List Place) × TermHas x.value qs × Tells x.seen (ps ++ qs)
 unfolding address
 address_came r seen x ps e told = elim (chosen (same (name_here r) (codes "M")) _ _ _ e) [
   | inl (h, is) ↦ (let p = bind_ok (mark 91 (skip_blanks (behind (prefix_len is_name_byte r.bytes) r))) _ x is in
       let q = bind_ok (term p.0 seen) _ x p.2 in
       let s = bind_ok (mark 93 (skip_blanks q.0.rest)) _ x q.2 in
-      subst (λ (y : Read (Option PatTerm)). (qs : List Place) × TermHas y.value qs × Tells y.seen (ps ++ qs)) (ok_is s.2) (term_came p.0 seen q.0 ps q.1 told))
+      subst (λ (y : Read (Option PatTerm)). (qs : List Place) × TermHas y.value qs × Tells y.seen (ps ++ qs))
+      (ok_is s.2) (term_came p.0 seen q.0 ps q.1 told))
   | inr (h, is) ↦ absurd (not_ok is)
 ]

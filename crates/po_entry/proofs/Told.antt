@@ -1,5 +1,7 @@
 -- What the operands seen so far say of the places that were read.
-use Rattle.std.proofs.Common.{◌≡◌, ◌≢◌, ℕ, ◌<◌, ◌==◌, Bool, true, false, List, [], ◌∷◌, ◌++◌, length, All, AllPairs, refl, sym, ap, ◌∙◌, subst, arith, Option, Some, None, zero, suc, ◌⊎◌, inl, inr, eqb-true, eq-eqb}
+use Rattle.std.proofs.Common.{◌≡◌, ◌≢◌, ℕ, ◌<◌, ◌==◌, Bool, true, false, List, [], ◌∷◌, ◌++◌, length, All, AllPairs}
+use Rattle.std.proofs.Common.{refl, sym, ap, ◌∙◌, subst, arith, Option, Some, None, zero, suc, ◌⊎◌, inl, inr}
+use Rattle.std.proofs.Common.{eqb-true, eq-eqb}
 use Rattle.std.proofs.lemmas.List.{get_or-set_same, get_or-set_other}
 use Rattle.std.proofs.Math.ListN.{length-set}
 use Rattle.std.proofs.lemmas.List.Elements.{All-push, All-weaker, All-nil, Contains-append_left, Contains-append_right}
@@ -58,7 +60,10 @@ not_new p None e h = cc
 not_new p (Some q) e h = cc
 
 equal_or_not : (m n : ℕ) → (m ≡ n) ⊎ (m ≢ n)
-equal_or_not m n = elim (m == n) as (λ b. (m == n) ≡ b → (m ≡ n) ⊎ (m ≢ n)) [ true ↦ (λ e. inl (eqb-true m n e)) | false ↦ (λ e. inr (λ h. let t : (m == n) ≡ true = eq-eqb m n h in cc)) ] refl
+equal_or_not m n = elim (m == n) as (λ b. (m == n) ≡ b → (m ≡ n) ⊎ (m ≢ n)) [
+  | true ↦ (λ e. inl (eqb-true m n e))
+  | false ↦ (λ e. inr (λ h. let t : (m == n) ≡ true = eq-eqb m n h in cc))
+] refl
 
 none_of_ten : (k : ℕ) (o : OperandKind) → kind_of none_seen k ≡ Some o → ⊥
 none_of_ten zero o e = cc
@@ -82,22 +87,34 @@ none_told = record {
 }
 
 -- the kind of the digit itself, and that of another
-kind_here : (seen : Operands) (o : OperandKind) (k : ℕ) → k < length seen.kinds → kind_of (with_operand seen o k) k ≡ Some o
+kind_here : (seen : Operands) (o : OperandKind) (k : ℕ) → k < length seen.kinds → kind_of (with_operand seen o k) k
+    ≡ Some o
 kind_here seen o k h = get_or-set_same seen.kinds k (Some o) None h
 
 kind_there : (seen : Operands) (o : OperandKind) (k j : ℕ) → j ≢ k → kind_of (with_operand seen o k) j ≡ kind_of seen j
 kind_there seen o k j h = get_or-set_other seen.kinds k j (Some o) None h
 
 -- what was known stays known
-still_known : (seen : Operands) (o : OperandKind) (k : ℕ) (p : Place) → k < length seen.kinds → may_be o (kind_of seen k) ≡ true
+still_known : (seen : Operands) (o : OperandKind) (k : ℕ) (p : Place) → k < length seen.kinds
+    → may_be o (kind_of seen k) ≡ true
     → IsKnown seen p → (p.digit ≡ k) ⊎ (p.digit ≢ k) → IsKnown (with_operand seen o k) p
 still_known seen o k p small may h (inl e) =
     let was : kind_of seen k ≡ Some h.kind = ap (kind_of seen) (sym e) ∙ h.is in
-    record { kind = o; is = ap (kind_of (with_operand seen o k)) e ∙ kind_here seen o k small; sort = h.sort ∙ ap sort_of (only_kind o h.kind (kind_of seen k) was may) }
-still_known seen o k p small may h (inr n) = record { kind = h.kind; is = kind_there seen o k p.digit n ∙ h.is; sort = h.sort }
+    record {
+      kind = o;
+      is = ap (kind_of (with_operand seen o k)) e ∙ kind_here seen o k small;
+      sort = h.sort
+          ∙ ap sort_of (only_kind o h.kind (kind_of seen k) was may);
+    }
+still_known seen o k p small may h (inr n) = record {
+  kind = h.kind;
+  is = kind_there seen o k p.digit n ∙ h.is;
+  sort = h.sort;
+}
 
 -- what holds of a place and the next one
-agrees : (seen : Operands) (o : OperandKind) (k : ℕ) (ranged : Bool) (p : Place) → may_be o (kind_of seen k) ≡ true → (ranged ≡ true → is_new (kind_of seen k) ≡ true)
+agrees : (seen : Operands) (o : OperandKind) (k : ℕ) (ranged : Bool) (p : Place) → may_be o (kind_of seen k) ≡ true
+    → (ranged ≡ true → is_new (kind_of seen k) ≡ true)
     → IsKnown seen p → AgreesWith p (place k (sort_of o) ranged)
 agrees seen o k ranged p may new h = record {
   one_sort = λ e. h.sort ∙ ap sort_of (only_kind o h.kind (kind_of seen k) (ap (kind_of seen) (sym e) ∙ h.is) may);
@@ -112,25 +129,34 @@ pub among_left : (ps qs : List Place) (k : ℕ) (s : Sort) → IsAmong ps k s �
 among_left ps qs k s h = record { ranged = h.ranged; among = Contains-append_left ps qs (place k s h.ranged) h.among }
 
 among_next : (ps : List Place) (k : ℕ) (s : Sort) (ranged : Bool) → IsAmong (ps ++ place k s ranged ∷ []) k s
-among_next ps k s ranged = record { ranged = ranged; among = Contains-append_right ps (place k s ranged ∷ []) (place k s ranged) (0, omega arith, refl) }
+among_next ps k s ranged = record {
+  ranged = ranged;
+  among = Contains-append_right ps (place k s ranged ∷ [])
+      (place k s ranged) (0, omega arith, refl);
+}
 
 some_is : {A : Type 0} {x y : A} → ◌≡◌ {A = Option A} (Some x) (Some y) → x ≡ y
 some_is e = cc
 
 -- the digit's own kind, or one that was there
-told_on : (seen : Operands) (o : OperandKind) (k : ℕ) (ranged : Bool) (ps : List Place) (j : ℕ) (q : OperandKind) → k < length seen.kinds
-    → ((j : ℕ) (q : OperandKind) → kind_of seen j ≡ Some q → IsAmong ps j (sort_of q)) → kind_of (with_operand seen o k) j ≡ Some q
+told_on : (seen : Operands) (o : OperandKind) (k : ℕ) (ranged : Bool) (ps : List Place) (j : ℕ) (q : OperandKind)
+    → k < length seen.kinds
+    → ((j : ℕ) (q : OperandKind) → kind_of seen j ≡ Some q → IsAmong ps j (sort_of q))
+    → kind_of (with_operand seen o k) j ≡ Some q
     → (j ≡ k) ⊎ (j ≢ k) → IsAmong (ps ++ place k (sort_of o) ranged ∷ []) j (sort_of q)
 told_on seen o k ranged ps j q small told is (inl e) =
     let same : o ≡ q = some_is (sym (kind_here seen o k small) ∙ ap (kind_of (with_operand seen o k)) (sym e) ∙ is) in
     subst (λ (i : ℕ). IsAmong (ps ++ place k (sort_of o) ranged ∷ []) i (sort_of q)) (sym e)
-    (subst (λ (p : OperandKind). IsAmong (ps ++ place k (sort_of o) ranged ∷ []) k (sort_of p)) same (among_next ps k (sort_of o) ranged))
+    (subst (λ (p : OperandKind). IsAmong (ps ++ place k (sort_of o) ranged ∷ []) k (sort_of p)) same
+    (among_next ps k (sort_of o) ranged))
 told_on seen o k ranged ps j q small told is (inr n) =
     among_left ps (place k (sort_of o) ranged ∷ []) j (sort_of q) (told j q (sym (kind_there seen o k j n) ∙ is))
 
 -- one operand more
-pub told_more : (seen : Operands) (o : OperandKind) (k : ℕ) (ranged : Bool) (ps : List Place) → k < 10 → may_be o (kind_of seen k) ≡ true
-    → (ranged ≡ true → is_new (kind_of seen k) ≡ true) → Tells seen ps → Tells (with_operand seen o k) (ps ++ place k (sort_of o) ranged ∷ [])
+pub told_more : (seen : Operands) (o : OperandKind) (k : ℕ) (ranged : Bool) (ps : List Place) → k < 10
+    → may_be o (kind_of seen k) ≡ true
+    → (ranged ≡ true → is_new (kind_of seen k) ≡ true) → Tells seen ps → Tells (with_operand seen o k)
+    (ps ++ place k (sort_of o) ranged ∷ [])
 told_more seen o k ranged ps small may new h =
     let within : k < length seen.kinds = omega (arith, h.ten) in
     record {
@@ -139,5 +165,6 @@ told_more seen o k ranged ps small may new h =
           (All-weaker _ _ (λ p g. still_known seen o k p within may g (equal_or_not p.digit k)) ps h.known)
           (record { kind = o; is = kind_here seen o k within; sort = refl });
       told = λ j q is. told_on seen o k ranged ps j q within h.told is (equal_or_not j k);
-      agree = all_pairs_push AgreesWith ps (place k (sort_of o) ranged) h.agree (λ i d l. agrees seen o k ranged _ may new (h.known i d l));
+      agree = all_pairs_push AgreesWith ps (place k (sort_of o) ranged) h.agree
+          (λ i d l. agrees seen o k ranged _ may new (h.known i d l));
     }

@@ -1,5 +1,6 @@
 -- The printed text of entries. Terms are printed as those of code are, with operands in place of what they stand for.
-use Rattle.std.specs.Prelude.{ℕ, List, [], ◌∷◌, ◌++◌, map, codes, Bool, true, false, ◌==◌, ◌||◌, if◌then◌else◌, Option, Some, None}
+use Rattle.std.specs.Prelude.{ℕ, List, [], ◌∷◌, ◌++◌, map, codes, Bool, true, false, ◌==◌, ◌||◌, if◌then◌else◌}
+use Rattle.std.specs.Prelude.{Option, Some, None}
 use Rattle.std.specs.List.{flat_map}
 use Rattle.std.specs.Fmt.{decimal, signed_decimal}
 use Rattle.po_term.specs.Tree.{Const, Leaf, Read, Unary, Binary}
@@ -10,7 +11,8 @@ use Rattle.po_model.specs.declared.machine.PatReg.TheVariants as register
 use Rattle.po_model.specs.declared.machine.Piece.{Piece}
 use Rattle.po_model.specs.declared.machine.Piece.TheVariants as piece
 use Rattle.po_model.specs.declared.machine.Entry.{Entry}
-use Rattle.po_model.specs.Patterns.{PatConst, Exactly, Operand, PatLeaf, InPatReg, AtSymbol, PatTree, PatMove, SetsTo, Compares, Stores, Jumps, Branches, BranchesOn, Calls, Returns, pat_moves_of}
+use Rattle.po_model.specs.Patterns.{PatConst, Exactly, Operand, PatLeaf, InPatReg, AtSymbol, PatTree, PatMove, SetsTo}
+use Rattle.po_model.specs.Patterns.{Compares, Stores, Jumps, Branches, BranchesOn, Calls, Returns, pat_moves_of}
 
 -- an operand: its mark and its digit
 abbrev pub operand_text : List ℕ → ℕ → List ℕ
@@ -37,7 +39,8 @@ pat_term_text (Const c) = pat_const_text c
 pat_term_text (Leaf l) = pat_leaf_text l
 pat_term_text (Read a) = codes "M[" ++ pat_term_text a ++ codes "]"
 pat_term_text (Unary o a) = un_text o ++ codes "(" ++ pat_term_text a ++ codes ")"
-pat_term_text (Binary o a b) = codes "(" ++ pat_term_text a ++ codes " " ++ bin_text o ++ codes " " ++ pat_term_text b ++ codes ")"
+pat_term_text (Binary o a b) = codes "(" ++ pat_term_text a ++ codes " " ++ bin_text o ++ codes " " ++ pat_term_text b
+    ++ codes ")"
 
 abbrev pub pat_move_text : PatMove → List ℕ
 pat_move_text (SetsTo r a) = pat_reg_text r ++ codes " := " ++ pat_term_text a
@@ -45,7 +48,8 @@ pat_move_text (Compares a b) = codes "cc := " ++ pat_term_text a ++ codes " ? " 
 pat_move_text (Stores a b) = codes "M[" ++ pat_term_text a ++ codes "] := " ++ pat_term_text b
 pat_move_text (Jumps k) = codes "goto " ++ operand_text (codes "@") k
 pat_move_text (Branches r k) = codes "if cc " ++ rel_text r ++ codes " goto " ++ operand_text (codes "@") k
-pat_move_text (BranchesOn a b r k) = codes "if " ++ pat_term_text a ++ codes " ? " ++ pat_term_text b ++ codes " " ++ rel_text r ++ codes " goto " ++ operand_text (codes "@") k
+pat_move_text (BranchesOn a b r k) = codes "if " ++ pat_term_text a ++ codes " ? " ++ pat_term_text b ++ codes " "
+    ++ rel_text r ++ codes " goto " ++ operand_text (codes "@") k
 pat_move_text (Calls k) = codes "call " ++ operand_text (codes "&") k
 pat_move_text Returns = codes "ret"
 
@@ -77,4 +81,5 @@ template_text ps = flat_map piece_text ps
 
 -- the line of an entry, without its line feed
 unfoldable pub entry_text : Entry → List ℕ
-entry_text e = codes "insn " ++ pattern_text (pat_moves_of e.pattern) ++ clobber_text e.clobbers ++ codes " => " ++ template_text e.template
+entry_text e = codes "insn " ++ pattern_text (pat_moves_of e.pattern) ++ clobber_text e.clobbers ++ codes " => "
+    ++ template_text e.template

@@ -1,5 +1,6 @@
 -- The list of an entry's transfers, and what each decides behind those before it.
-use Rattle.std.specs.Prelude.{ℕ, ◌==◌, ◌&&◌, Bool, true, false, not, nat_lt, List, [], ◌∷◌, ◌++◌, length, codes, zero, suc, if◌then◌else◌, Result, Ok, Err, Option, Some, None, ⊤}
+use Rattle.std.specs.Prelude.{ℕ, ◌==◌, ◌&&◌, Bool, true, false, not, nat_lt, List, [], ◌∷◌, ◌++◌, length, codes, zero}
+use Rattle.std.specs.Prelude.{suc, if◌then◌else◌, Result, Ok, Err, Option, Some, None, ⊤}
 use Rattle.std.specs.List.{list_all, list_any}
 use Rattle.po_text.specs.declared.fault.Kind.TheVariants as kind
 use Rattle.po_term.specs.declared.term.Reg.TheVariants.{Fp}
@@ -47,7 +48,8 @@ may_follow before m = nat_lt (length before) 4 && not (sets (Fixed Fp) m) && lis
 -- these transfers and one more, which was read at this column: first its terms are looked at, then the list
 abbrev pub decided : ℕ → List PatTransfer → Option PatTransfer → Result (List PatTransfer) LineFault
 decided column before None = Err (fault column kind.TooMany)
-decided column before (Some m) = if may_follow before m then Ok (before ++ m ∷ []) else Err (fault column kind.ListForm)
+decided column before (Some m) = if may_follow before m then Ok (before ++ m ∷ [])
+    else Err (fault column kind.ListForm)
 
 -- these transfers, and the one that stands here
 unfoldable pub with_next : List PatTransfer → Rest → Operands → Result (Read (List PatTransfer)) LineFault

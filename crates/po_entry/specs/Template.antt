@@ -1,5 +1,6 @@
 -- The template of an entry: the bytes behind `=>` and one space, up to the line's end.
-use Rattle.std.specs.Prelude.{ℕ, ◌+◌, ◌-◌, ◌==◌, ◌&&◌, Bool, nat_le, List, [], ◌∷◌, ◌++◌, false, codes, if◌then◌else◌, Result, Ok, Err, Option, Some, None}
+use Rattle.std.specs.Prelude.{ℕ, ◌+◌, ◌-◌, ◌==◌, ◌&&◌, Bool, nat_le, List, [], ◌∷◌, ◌++◌, false, codes, if◌then◌else◌}
+use Rattle.std.specs.Prelude.{Result, Ok, Err, Option, Some, None}
 use Rattle.po_text.specs.declared.fault.Kind.TheVariants as kind
 use Rattle.po_name.specs.Names.{is_digit}
 use Rattle.po_lines.specs.declared.fault.LineFault.{LineFault}
@@ -22,7 +23,8 @@ arrow r = if says (codes "=>") r then mark 32 (after_word r) else wrong r
 
 -- what an operand with this mark stands for
 abbrev pub kind_by : ℕ → OperandKind
-kind_by mark = if mark == 37 then Register else (if mark == 35 then Constant else (if mark == 64 then Label else Symbol))
+kind_by mark = if mark == 37 then Register else (if mark == 35 then Constant
+    else (if mark == 64 then Label else Symbol))
 
 abbrev pub piece_by : OperandKind → ℕ → Piece
 piece_by Register k = piece.Reg k
@@ -38,7 +40,8 @@ is_seen kind (Some other) = same_kind other kind
 -- a mark and the byte behind it: a single character, or an operand of the pattern
 abbrev pub marked : Operands → Mark → ℕ → Result Piece LineFault
 marked seen mark byte = if byte == mark.byte then Ok (piece.Byte byte)
-    else (if is_digit byte && is_seen (kind_by mark.byte) (kind_of seen (byte - 48)) then Ok (piece_by (kind_by mark.byte) (byte - 48))
+    else (if is_digit byte && is_seen (kind_by mark.byte) (kind_of seen (byte - 48))
+    then Ok (piece_by (kind_by mark.byte) (byte - 48))
     else Err (fault mark.column kind.ListForm))
 
 -- a character that stands for itself
@@ -51,7 +54,8 @@ with_piece pieces p = record { pieces = pieces ++ p ∷ []; waiting = None }
 
 -- one byte more, which stands at this column
 abbrev pub step_with : Operands → ℕ → List Piece → Option Mark → ℕ → Result Begun LineFault
-step_with seen column pieces None byte = if is_mark byte then Ok (record { pieces = pieces; waiting = Some (record { byte = byte; column = column }) })
+step_with seen column pieces None byte = if is_mark byte
+    then Ok (record { pieces = pieces; waiting = Some (record { byte = byte; column = column }) })
     else (do
       p ← plain column byte
       Ok (with_piece pieces p))

@@ -36,4 +36,5 @@ ends_word (b ∷ bs) = is_blank b
 
 -- what was read has to end here; another byte than a blank is wrong
 unfoldable pub ended : {T : Type 0} → Read T → Result (Read T) LineFault
-ended x = if ends_word x.rest.bytes then Ok (record { value = x.value; rest = skip_blanks x.rest; seen = x.seen }) else wrong x.rest
+ended x = if ends_word x.rest.bytes then Ok (record { value = x.value; rest = skip_blanks x.rest; seen = x.seen })
+    else wrong x.rest

@@ -1,9 +1,9 @@
 //! The entries of a machine's description: an `insn` line read exactly to its entry or its first fault, and an entry
 //! printed (docs/DESCRIPTION.md, "Entries").
 //!
-//! Reading goes from left to right: `words` has keywords and the ends of words, `transfer` one transfer, `list` the list of
-//! them and what each decides behind those before it, `template` the bytes behind `=>`, `read` the whole line. `print`
-//! writes an entry.
+//! Reading goes from left to right: `words` has keywords and the ends of words, `transfer` one transfer, `list` the
+//! list of them and what each decides behind those before it, `template` the bytes behind `=>`, `read` the whole
+//! line. `print` writes an entry.
 //!
 //! Its tests stand in `po_input_rows`.
 #![tactic(auto)]

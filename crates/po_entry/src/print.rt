@@ -5,7 +5,9 @@ ghost use Rattle.std.specs.List.{flat_map};
 ghost use Rattle.std.specs.Fmt.{decimal, signed_decimal};
 ghost use Rattle.po_termtext.specs.TermText.{const_text, reg_text, un_text, bin_text, rel_text};
 ghost use Rattle.po_model.specs.Patterns.{pattern_of, branch_of, pat_move_of, pat_moves_of};
-ghost use Rattle.po_entry.specs.EntryText.{operand_text, pat_reg_text, range_text, pat_term_text, pat_move_text, pattern_text, is_mark as is_mark_byte, piece_text, byte_text, template_text, entry_text};
+ghost use Rattle.po_entry.specs.EntryText.{operand_text, pat_reg_text, range_text, pat_term_text, pat_move_text};
+ghost use Rattle.po_entry.specs.EntryText.{pattern_text, is_mark as is_mark_byte, piece_text, byte_text};
+ghost use Rattle.po_entry.specs.EntryText.{template_text, entry_text};
 
 use itoa::Buffer;
 use po_model::{Bounds, Entry, PatCond, PatReg, PatTerm, PatTransfer, Piece};
@@ -13,8 +15,8 @@ use po_termtext::{push, push_bin, push_constant, push_reg as push_fixed, push_re
 use po_word::{OutOfMemory, Rel};
 use std::alloc::Global;
 
-/// Adds the line of an entry, without its line feed, at the end of `out` (docs/DESCRIPTION.md, "Entries"). Only memory can
-/// fail, and then `out` is as it was.
+/// Adds the line of an entry, without its line feed, at the end of `out` (docs/DESCRIPTION.md, "Entries"). Only
+/// memory can fail, and then `out` is as it was.
 pub fn print_entry(alloc: Global, e: &Entry, out: &mut Vec<u8>) -> Result<(), OutOfMemory>
     ensures text { OnOk result (out.new.items ≡ out.old.items ++ entry_text e.now) }
     ensures kept { OnErr result (out.new.items ≡ out.old.items) }
@@ -55,7 +57,8 @@ fn push_pattern(out: &mut Vec<u8>, transfers: &[PatTransfer]) -> Result<(), OutO
 
 /// The transfers behind the first, each behind the separator.
 fn push_others(out: &mut Vec<u8>, others: &[PatTransfer]) -> Result<(), OutOfMemory>
-    ensures { OnOk result (out.new.items ≡ out.old.items ++ flat_map (λ text. codes " ; " ++ text) (map pat_move_text (pat_moves_of others.now))) }
+    ensures { OnOk result (out.new.items ≡ out.old.items ++ flat_map (λ text. codes " ; " ++ text)
+        (map pat_move_text (pat_moves_of others.now))) }
 {
     for transfer in others {
         push(out, b" ; ")?;

@@ -14,8 +14,8 @@ use po_pattern::{none_seen, skip_blanks, start};
 use sqlite_items::Items;
 use std::alloc::Global;
 
-/// The entry of a line whose first word is `insn`, or the first fault from left to right (docs/DESCRIPTION.md, "Entries").
-/// The line has at most 4,096 bytes. The time is linear in them.
+/// The entry of a line whose first word is `insn`, or the first fault from left to right (docs/DESCRIPTION.md,
+/// "Entries"). The line has at most 4,096 bytes. The time is linear in them.
 pub fn read_entry(alloc: Global, line: &[u8]) -> Result<Entry, LineError>
     requires { length line.now ≤ 4096 }
     ensures gives { Gives (λ e. e) result (entry_in line.now) }

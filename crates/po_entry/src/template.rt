@@ -1,5 +1,5 @@
-//! The template of an entry: characters and operands, byte by byte. A mark (`%`, `#`, `@`, `&`) that has come waits for the
-//! byte behind it, which makes it a character or an operand.
+//! The template of an entry: characters and operands, byte by byte. A mark (`%`, `#`, `@`, `&`) that has come waits
+//! for the byte behind it, which makes it a character or an operand.
 
 ghost use Rattle.std.specs.Prelude.{◌≡◌, ◌+◌, ◌≤◌, length};
 ghost use Rattle.po_name.specs.Names.{is_digit as is_digit_byte};

@@ -1,5 +1,6 @@
 -- A line that has its form is read.
-use Rattle.std.proofs.Common.{◌≡◌, ℕ, suc, ◌<◌, ◌≤◌, List, [], ◌∷◌, ◌++◌, Bool, true, false, Ok, refl, ap, sym, ◌∙◌, subst, length, take, drop, map, codes, arith, ◌⊎◌, inl, inr}
+use Rattle.std.proofs.Common.{◌≡◌, ℕ, suc, ◌<◌, ◌≤◌, List, [], ◌∷◌, ◌++◌, Bool, true, false, Ok, refl, ap, sym, ◌∙◌}
+use Rattle.std.proofs.Common.{subst, length, take, drop, map, codes, arith, ◌⊎◌, inl, inr}
 use Rattle.std.specs.Prelude.{⊤, nat_lt, ◌==◌}
 use Rattle.std.proofs.lemmas.Bool.Decides.{nat_tests}
 use Rattle.std.proofs.lemmas.Cmp.{nat_list_eq_equiv}
@@ -26,7 +27,8 @@ use Rattle.po_mdread.proofs.LinesFound.{head_of}
 pub keyword_again : (text : List ℕ) (w : Placed) → w.bytes ≡ text → keyword_in text w ≡ Ok tt
 unfolding keyword_in
 keyword_again text w e =
-    let yes : same w.bytes text ≡ true = subst (λ (t : List ℕ). same w.bytes t ≡ true) e (nat_list_eq_equiv.refl w.bytes) in
+    let yes : same w.bytes text ≡ true = subst (λ (t : List ℕ). same w.bytes t ≡ true) e
+    (nat_list_eq_equiv.refl w.bytes) in
     rw yes refl
 
 -- these words say these names
@@ -45,7 +47,8 @@ cons_none x xs e = cc
 none_cons : {A : Type 0} (x : A) (xs : List A) → ◌≡◌ {A = List A} [] (x ∷ xs) → ⊥
 none_cons x xs e = cc
 
-pub names_again : (ws : List Placed) (names : List (List ℕ)) → map bytes_of ws ≡ names → AreNames names → names_in ws ≡ Ok names
+pub names_again : (ws : List Placed) (names : List (List ℕ)) → map bytes_of ws ≡ names → AreNames names → names_in ws
+    ≡ Ok names
 unfolding names_in
 names_again [] [] e h = refl
 names_again [] (n ∷ ns) e h = absurd (none_cons n ns e)
@@ -64,7 +67,8 @@ nil_is : (ws : List Placed) → map bytes_of ws ≡ [] → ws ≡ []
 nil_is [] e = refl
 nil_is (w ∷ ws) e = absurd (cons_none w.bytes (map bytes_of ws) e)
 
-pub alone_again : (ws : List Placed) (end : ℕ) (name : List ℕ) → map bytes_of ws ≡ name ∷ [] → is_name name ≡ true → name_alone ws end ≡ Ok name
+pub alone_again : (ws : List Placed) (end : ℕ) (name : List ℕ) → map bytes_of ws ≡ name ∷ [] → is_name name ≡ true
+    → name_alone ws end ≡ Ok name
 unfolding name_alone first_word rest_words
 alone_again [] end name e h = absurd (none_cons name [] e)
 alone_again (w ∷ ws) end name e h =
@@ -89,7 +93,8 @@ enough_again : (n : ℕ) (ws : List Placed) (end : ℕ) → n ≤ length ws → 
 unfolding at_least
 enough_again n ws end h = let no : nat_lt (length ws) n ≡ false = grind (arith, nat_tests) in rw no refl
 
-pub four_again : (ws : List Placed) (end : ℕ) (names : List (List ℕ)) → map bytes_of ws ≡ names → AreNames names → length names ≡ 4 → four_names ws end ≡ Ok names
+pub four_again : (ws : List Placed) (end : ℕ) (names : List (List ℕ)) → map bytes_of ws ≡ names → AreNames names
+    → length names ≡ 4 → four_names ws end ≡ Ok names
 unfolding four_names
 four_again ws end names e h four =
     let long : length ws ≡ 4 = sym (length_words ws) ∙ ap length e ∙ four in
@@ -111,7 +116,8 @@ unfolding first_word
 some_again [] end h = absurd (omega (arith, h))
 some_again (w ∷ ws) end h = record { first = w; is = refl }
 
-pub registers_again : (ws : List Placed) (end : ℕ) (names : List (List ℕ)) → map bytes_of ws ≡ names → AreNames names → 1 ≤ length names → length names ≤ 64 → register_names ws end ≡ Ok names
+pub registers_again : (ws : List Placed) (end : ℕ) (names : List (List ℕ)) → map bytes_of ws ≡ names → AreNames names
+    → 1 ≤ length names → length names ≤ 64 → register_names ws end ≡ Ok names
 unfolding register_names
 registers_again ws end names e h some few =
     let long : length ws ≡ length names = sym (length_words ws) ∙ ap length e in
@@ -125,14 +131,16 @@ abbrev pub AreNew : List (List ℕ) → List (List ℕ) → Type 0
 AreNew before [] = ⊤
 AreNew before (n ∷ ns) = (has n before ≡ false) × AreNew (before ++ n ∷ []) ns
 
-pub new_again : (names more : List (List ℕ)) (ws : List Placed) → map bytes_of ws ≡ more → AreNew names more → (all : List (List ℕ)) × (with_new names ws ≡ Ok all)
+pub new_again : (names more : List (List ℕ)) (ws : List Placed) → map bytes_of ws ≡ more → AreNew names more
+    → (all : List (List ℕ)) × (with_new names ws ≡ Ok all)
 unfolding with_new
 new_again names more [] e h = (names, refl)
 new_again names [] (w ∷ ws) e h = absurd (cons_none w.bytes (map bytes_of ws) e)
 new_again names (n ∷ ns) (w ∷ ws) e h =
     let p = cons_is w.bytes n (map bytes_of ws) ns e in
     let no : has w.bytes names ≡ false = ap (λ (x : List ℕ). has x names) p.0 ∙ h.0 in
-    let rest = new_again (names ++ w.bytes ∷ []) ns ws p.1 (subst (λ (x : List ℕ). AreNew (names ++ x ∷ []) ns) (sym p.0) h.1) in
+    let rest = new_again (names ++ w.bytes ∷ []) ns ws p.1 (subst (λ (x : List ℕ). AreNew (names ++ x ∷ []) ns)
+    (sym p.0) h.1) in
     (rest.0, rw no rest.1)
 
 -- the words of a line: its first, and those behind it
@@ -143,20 +151,23 @@ pub record HasWords (l : Numbered) (text : List ℕ) (names : List (List ℕ)) :
   pub is : first.bytes ≡ text
   pub behind : map bytes_of others ≡ names
 
-words_by : (l : Numbered) (ws : List Placed) (text : List ℕ) (names : List (List ℕ)) → words_in l.bytes ≡ ws → map bytes_of ws ≡ text ∷ names → HasWords l text names
+words_by : (l : Numbered) (ws : List Placed) (text : List ℕ) (names : List (List ℕ)) → words_in l.bytes ≡ ws
+    → map bytes_of ws ≡ text ∷ names → HasWords l text names
 words_by l [] text names e h = absurd (none_cons text names h)
 words_by l (w ∷ ws) text names e h =
     let p = cons_is w.bytes text (map bytes_of ws) names h in
     record { first = w; others = ws; words = e; is = p.0; behind = p.1 }
 
-pub has_words : (l : Numbered) (text : List ℕ) (names : List (List ℕ)) → map bytes_of (words_in l.bytes) ≡ text ∷ names → HasWords l text names
+pub has_words : (l : Numbered) (text : List ℕ) (names : List (List ℕ)) → map bytes_of (words_in l.bytes) ≡ text
+    ∷ names → HasWords l text names
 has_words l text names h = words_by l (words_in l.bytes) text names refl h
 
 short_again : (line : List ℕ) → length line ≤ 4096 → line_words line ≡ Ok (words_in line)
 unfolding line_words
 short_again line h = let no : nat_lt 4096 (length line) ≡ false = grind (arith, nat_tests) in rw no refl
 
-words_said : (s : Sofar) (l : Numbered) (w : Placed) (ws : List Placed) → says_nothing (w ∷ ws) ≡ false → words_line s l (w ∷ ws) ≡ some_line s l w ws
+words_said : (s : Sofar) (l : Numbered) (w : Placed) (ws : List Placed) → says_nothing (w ∷ ws) ≡ false
+    → words_line s l (w ∷ ws) ≡ some_line s l w ws
 unfolding words_line
 words_said s l w ws e = rw e refl
 
@@ -166,7 +177,8 @@ words_silent s l [] e = refl
 words_silent s l (w ∷ ws) e = rw e refl
 
 -- a line that says something is read as its form says
-pub said_step : (s t : Sofar) (l : Numbered) (w : Placed) (ws : List Placed) → length l.bytes ≤ 4096 → words_in l.bytes ≡ w ∷ ws → says_nothing (w ∷ ws) ≡ false → has_ended s ≡ false
+pub said_step : (s t : Sofar) (l : Numbered) (w : Placed) (ws : List Placed) → length l.bytes ≤ 4096
+    → words_in l.bytes ≡ w ∷ ws → says_nothing (w ∷ ws) ≡ false → has_ended s ≡ false
     → some_line s l w ws ≡ Ok t → step s l ≡ Ok t
 unfolding step line_in
 said_step s t l w ws short e said going told =
@@ -179,7 +191,8 @@ either true = inl refl
 either false = inr refl
 
 -- one that says nothing is passed over
-pub silent_step : (s : Sofar) (l : Numbered) → length l.bytes ≤ 4096 → says_nothing (words_in l.bytes) ≡ true → step s l ≡ Ok s
+pub silent_step : (s : Sofar) (l : Numbered) → length l.bytes ≤ 4096 → says_nothing (words_in l.bytes) ≡ true
+    → step s l ≡ Ok s
 unfolding step line_in
 silent_step s l short silent = elim (either (has_ended s)) [
   | inl done ↦ rw done refl
@@ -189,7 +202,8 @@ silent_step s l short silent = elim (either (has_ended s)) [
 ]
 
 -- the forms of the lines
-pub machine_again : (w : Placed) (ws : List Placed) (end : ℕ) (name : List ℕ) → w.bytes ≡ codes "machine" → map bytes_of ws ≡ name ∷ [] → is_name name ≡ true
+pub machine_again : (w : Placed) (ws : List Placed) (end : ℕ) (name : List ℕ) → w.bytes ≡ codes "machine"
+    → map bytes_of ws ≡ name ∷ [] → is_name name ≡ true
     → reading.machine_line w ws end ≡ Ok (ToFrame name)
 unfolding reading.machine_line
 machine_again w ws end name e f h =
@@ -197,7 +211,8 @@ machine_again w ws end name e f h =
     let read : name_alone ws end ≡ Ok name = alone_again ws end name f h in
     rw (first, read) refl
 
-pub frame_again : (n : List ℕ) (w : Placed) (ws : List Placed) (end : ℕ) (name : List ℕ) → w.bytes ≡ codes "frame" → map bytes_of ws ≡ name ∷ [] → is_name name ≡ true
+pub frame_again : (n : List ℕ) (w : Placed) (ws : List Placed) (end : ℕ) (name : List ℕ) → w.bytes ≡ codes "frame"
+    → map bytes_of ws ≡ name ∷ [] → is_name name ≡ true
     → reading.frame_line n w ws end ≡ Ok (ToResult n name)
 unfolding reading.frame_line
 frame_again n w ws end name e f h =
@@ -205,7 +220,8 @@ frame_again n w ws end name e f h =
     let read : name_alone ws end ≡ Ok name = alone_again ws end name f h in
     rw (first, read) refl
 
-pub result_again : (n a : List ℕ) (w : Placed) (ws : List Placed) (end : ℕ) (name : List ℕ) → w.bytes ≡ codes "result" → map bytes_of ws ≡ name ∷ [] → is_name name ≡ true → AreNew (a ∷ []) (name ∷ [])
+pub result_again : (n a : List ℕ) (w : Placed) (ws : List Placed) (end : ℕ) (name : List ℕ) → w.bytes ≡ codes "result"
+    → map bytes_of ws ≡ name ∷ [] → is_name name ≡ true → AreNew (a ∷ []) (name ∷ [])
     → reading.result_line n a w ws end ≡ Ok (ToArgs n a name)
 unfolding reading.result_line
 result_again n a w ws end name e f h new =
@@ -215,7 +231,8 @@ result_again n a w ws end name e f h new =
     let named = all.1 in
     rw (first, read, named) refl
 
-pub args_again : (n a b : List ℕ) (w : Placed) (ws : List Placed) (end : ℕ) (args : List (List ℕ)) → w.bytes ≡ codes "args" → map bytes_of ws ≡ args → AreNames args → length args ≡ 4 → AreNew (a ∷ b ∷ []) args
+pub args_again : (n a b : List ℕ) (w : Placed) (ws : List Placed) (end : ℕ) (args : List (List ℕ))
+    → w.bytes ≡ codes "args" → map bytes_of ws ≡ args → AreNames args → length args ≡ 4 → AreNew (a ∷ b ∷ []) args
     → reading.args_line n a b w ws end ≡ Ok (ToRegs n a b args)
 unfolding reading.args_line
 args_again n a b w ws end args e f h four new =
@@ -225,8 +242,10 @@ args_again n a b w ws end args e f h four new =
     let named = all.1 in
     rw (first, read, named) refl
 
-pub regs_again : (n a b : List ℕ) (c : List (List ℕ)) (w : Placed) (ws : List Placed) (end : ℕ) (regs : List (List ℕ)) → w.bytes ≡ codes "regs" → map bytes_of ws ≡ regs → AreNames regs
-    → 1 ≤ length regs → length regs ≤ 64 → AreNew (a ∷ b ∷ c) regs → reading.regs_line n a b c w ws end ≡ Ok (ToEntries (head_of n a b c regs))
+pub regs_again : (n a b : List ℕ) (c : List (List ℕ)) (w : Placed) (ws : List Placed) (end : ℕ) (regs : List (List ℕ))
+    → w.bytes ≡ codes "regs" → map bytes_of ws ≡ regs → AreNames regs
+    → 1 ≤ length regs → length regs ≤ 64 → AreNew (a ∷ b ∷ c) regs → reading.regs_line n a b c w ws end
+    ≡ Ok (ToEntries (head_of n a b c regs))
 unfolding reading.regs_line
 regs_again n a b c w ws end regs e f h some few new =
     let first : keyword_in (codes "regs") w ≡ Ok tt = keyword_again (codes "regs") w e in
@@ -235,7 +254,8 @@ regs_again n a b c w ws end regs e f h some few new =
     let named = all.1 in
     rw (first, read, named) refl
 
-pub insn_again : (m : Machine) (l : Numbered) (w : Placed) (ws : List Placed) (e : Entry) → w.bytes ≡ codes "insn" → entry_in l.bytes ≡ Ok e → length m.entries < 512
+pub insn_again : (m : Machine) (l : Numbered) (w : Placed) (ws : List Placed) (e : Entry) → w.bytes ≡ codes "insn"
+    → entry_in l.bytes ≡ Ok e → length m.entries < 512
     → reading.entry_line m l w ws ≡ Ok (ToEntries (with_entry m e))
 unfolding reading.entry_line reading.insn_line
 insn_again m l w ws e is read room =
@@ -243,7 +263,8 @@ insn_again m l w ws e is read room =
     let no : (length m.entries == 512) ≡ false = grind (arith, nat_tests) in
     rw (yes, no, read) refl
 
-pub end_again : (m : Machine) (l : Numbered) (w : Placed) (ws : List Placed) → w.bytes ≡ codes "end" → map bytes_of ws ≡ [] → reading.entry_line m l w ws ≡ Ok (Ended m (behind l))
+pub end_again : (m : Machine) (l : Numbered) (w : Placed) (ws : List Placed) → w.bytes ≡ codes "end" → map bytes_of ws
+    ≡ [] → reading.entry_line m l w ws ≡ Ok (Ended m (behind l))
 unfolding reading.entry_line reading.end_line
 end_again m l w ws is none =
     let not_insn : same w.bytes (codes "insn") ≡ false = ap (λ (t : List ℕ). same t (codes "insn")) is in

@@ -1,5 +1,6 @@
 -- What is read is a machine that a description may tell of.
-use Rattle.std.proofs.Common.{◌≡◌, ◌≢◌, ℕ, zero, suc, ◌<◌, ◌≤◌, List, [], ◌∷◌, ◌++◌, Bool, true, false, Ok, refl, ap, sym, ◌∙◌, subst, length, length-append, get_or, arith, ◌⊎◌, inl, inr}
+use Rattle.std.proofs.Common.{◌≡◌, ◌≢◌, ℕ, zero, suc, ◌<◌, ◌≤◌, List, [], ◌∷◌, ◌++◌, Bool, true, false, Ok, refl, ap}
+use Rattle.std.proofs.Common.{sym, ◌∙◌, subst, length, length-append, get_or, arith, ◌⊎◌, inl, inr}
 use Rattle.std.specs.Prelude.{⊤, All, IsTrue, nat_eq, ◌||◌}
 use Rattle.std.specs.List.{AllPairs, list_any}
 use Rattle.std.specs.Cmp.Lexicographic.{pointwise}
@@ -18,7 +19,8 @@ use Rattle.po_model.specs.declared.machine.Machine.{Machine}
 use Rattle.po_model.specs.Entries.{IsEntry}
 use Rattle.po_model.specs.Machines.{IsMachine}
 use Rattle.po_mdread.specs.declared.sofar.Sofar.{Sofar}
-use Rattle.po_mdread.specs.declared.sofar.Sofar.TheVariants.{ToMachine, ToFrame, ToResult, ToArgs, ToRegs, ToEntries, Ended}
+use Rattle.po_mdread.specs.declared.sofar.Sofar.TheVariants.{ToMachine, ToFrame, ToResult, ToArgs, ToRegs, ToEntries}
+use Rattle.po_mdread.specs.declared.sofar.Sofar.TheVariants.{Ended}
 use Rattle.po_mdread.specs.NameLines.{with_new}
 use Rattle.po_mdread.specs.Reading.{names_sofar, some_line, has_ended, step}
 use Rattle.po_mdread.proofs.Ended.{rest_ended}
@@ -33,23 +35,27 @@ either_false : (a b : Bool) → (a || b) ≡ false → (a ≡ false) × (b ≡ f
 either_false true b e = cc
 either_false false b e = (refl, e)
 
-none_passes : (p : List ℕ → Bool) (xs : List (List ℕ)) → list_any p xs ≡ false → (k : ℕ) (d : List ℕ) → k < length xs → p (get_or xs k d) ≡ false
+none_passes : (p : List ℕ → Bool) (xs : List (List ℕ)) → list_any p xs ≡ false → (k : ℕ) (d : List ℕ) → k < length xs
+    → p (get_or xs k d) ≡ false
 none_passes p [] e k d h = absurd (omega (arith, h))
 none_passes p (x ∷ xs) e zero d h = (either_false (p x) (list_any p xs) e).0
 none_passes p (x ∷ xs) e (suc k) d h = none_passes p xs (either_false (p x) (list_any p xs) e).1 k d (omega (arith, h))
 
-new_differs : (name : List ℕ) (names : List (List ℕ)) → has name names ≡ false → (k : ℕ) (d : List ℕ) → k < length names → get_or names k d ≢ name
+new_differs : (name : List ℕ) (names : List (List ℕ)) → has name names ≡ false → (k : ℕ) (d : List ℕ)
+    → k < length names → get_or names k d ≢ name
 new_differs name names e k d h same =
     let no : pointwise nat_eq name (get_or names k d) ≡ false = none_passes (pointwise nat_eq name) names e k d h in
     let yes : pointwise nat_eq name name ≡ true = nat_list_eq_equiv.refl name in
     false≢true (sym no ∙ ap (pointwise nat_eq name) same ∙ yes)
 
-pub differ_new : (ws : List Placed) (names all : List (List ℕ)) → with_new names ws ≡ Ok all → Differ names → Differ all
+pub differ_new : (ws : List Placed) (names all : List (List ℕ)) → with_new names ws ≡ Ok all → Differ names
+    → Differ all
 unfolding with_new
 differ_new [] names all e h = subst Differ (ok_is e) h
 differ_new (w ∷ ws) names all e h = elim (chosen (has w.bytes names) _ _ (Ok all) e) [
   | inl p ↦ absurd (not_ok p.1)
-  | inr p ↦ differ_new ws (names ++ w.bytes ∷ []) all p.1 (all_pairs_push (λ n o. n ≢ o) names w.bytes h (new_differs w.bytes names p.0))
+  | inr p ↦ differ_new ws (names ++ w.bytes ∷ []) all p.1 (all_pairs_push (λ n o. n ≢ o) names w.bytes h
+      (new_differs w.bytes names p.0))
 ]
 
 named_more : (xs ys : List (List ℕ)) → AreNames xs → AreNames ys → AreNames (xs ++ ys)
@@ -91,9 +97,11 @@ pub none_fine : IsFine ToMachine
 none_fine = record { own = tt; named = tt; differ = λ i j d h k. absurd (omega (arith, h, k)); counted = tt }
 
 one_differs : (name : List ℕ) → Differ (name ∷ [])
-one_differs name = all_pairs_push (λ n o. n ≢ o) [] name (λ i j d h k. absurd (omega (arith, h, k))) (λ k d h. absurd (omega (arith, h)))
+one_differs name = all_pairs_push (λ n o. n ≢ o) [] name (λ i j d h k. absurd (omega (arith, h, k)))
+    (λ k d h. absurd (omega (arith, h)))
 
-said_fine : (s : Sofar) (l : Numbered) (w : Placed) (ws : List Placed) (t : Sofar) → some_line s l w ws ≡ Ok t → IsFine s → IsFine t
+said_fine : (s : Sofar) (l : Numbered) (w : Placed) (ws : List Placed) (t : Sofar) → some_line s l w ws ≡ Ok t
+    → IsFine s → IsFine t
 unfolding some_line
 said_fine ToMachine l w ws t e h =
     let f = machine_found w ws _ t e in
@@ -104,11 +112,21 @@ said_fine (ToFrame n) l w ws t e h =
 said_fine (ToResult n a) l w ws t e h =
     let f = result_found n a w ws _ t e in
     let names = new_are (a ∷ []) (a ∷ []) ws f.2.names (f.0 ∷ []) refl f.2.new f.1.read.words in
-    subst IsFine (sym f.3) (record { own = h.own; named = named_more (a ∷ []) (f.0 ∷ []) h.named f.1.read.named; differ = subst Differ names (differ_new ws (a ∷ []) f.2.names f.2.new h.differ); counted = tt })
+    subst IsFine (sym f.3) (record {
+      own = h.own;
+      named = named_more (a ∷ []) (f.0 ∷ []) h.named f.1.read.named;
+      differ = subst Differ names (differ_new ws (a ∷ []) f.2.names f.2.new h.differ);
+      counted = tt;
+    })
 said_fine (ToArgs n a b) l w ws t e h =
     let f = args_found n a b w ws _ t e in
     let names = new_are (a ∷ b ∷ []) (a ∷ b ∷ []) ws f.3.names f.0 refl f.3.new f.1.read.words in
-    subst IsFine (sym f.4) (record { own = h.own; named = named_more (a ∷ b ∷ []) f.0 h.named f.1.read.named; differ = subst Differ names (differ_new ws (a ∷ b ∷ []) f.3.names f.3.new h.differ); counted = f.2 })
+    subst IsFine (sym f.4) (record {
+      own = h.own;
+      named = named_more (a ∷ b ∷ []) f.0 h.named f.1.read.named;
+      differ = subst Differ names (differ_new ws (a ∷ b ∷ []) f.3.names f.3.new h.differ);
+      counted = f.2;
+    })
 said_fine (ToRegs n a b c) l w ws t e h =
     let f = regs_found n a b c w ws _ t e in
     let names = new_are (a ∷ b ∷ c) (a ∷ b ∷ c) ws f.3.names f.0 refl f.3.new f.1.read.words in

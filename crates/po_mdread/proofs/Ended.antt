@@ -16,5 +16,6 @@ rest_ended s [] h = refl
 rest_ended s (l ∷ ls) h = rw (step_ended s l h) (rest_ended s ls h)
 
 -- the rest of the lines changes nothing
-pub whole_read : (s : Sofar) (ls : List Numbered) (r : Result Sofar TextFault) → has_ended s ≡ true → read_each step s ls ≡ r → r ≡ Ok s
+pub whole_read : (s : Sofar) (ls : List Numbered) (r : Result Sofar TextFault) → has_ended s ≡ true
+    → read_each step s ls ≡ r → r ≡ Ok s
 whole_read s ls r h read = sym read ∙ rest_ended s ls h

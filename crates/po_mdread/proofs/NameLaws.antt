@@ -1,5 +1,6 @@
 -- What the names of a line are, where they are read.
-use Rattle.std.proofs.Common.{◌≡◌, ℕ, suc, ◌-◌, ◌≤◌, List, [], ◌∷◌, ◌++◌, true, Ok, refl, ap, sym, ◌∙◌, subst, length, take, drop, map, append_assoc, append-nil, arith, inl, inr}
+use Rattle.std.proofs.Common.{◌≡◌, ℕ, suc, ◌-◌, ◌≤◌, List, [], ◌∷◌, ◌++◌, true, Ok, refl, ap, sym, ◌∙◌, subst, length}
+use Rattle.std.proofs.Common.{take, drop, map, append_assoc, append-nil, arith, inl, inr}
 use Rattle.std.specs.Prelude.{nat_lt, ⊤, All}
 use Rattle.std.specs.List.{AllByRecursion}
 use Rattle.std.proofs.lemmas.Bool.Decides.{nat_tests}
@@ -27,7 +28,8 @@ pub names_found : (ws : List Placed) (names : List (List ℕ)) → names_in ws �
 unfolding names_in
 names_found [] names e = subst (λ (ns : List (List ℕ)). AreRead [] ns) (ok_is e) (record { words = refl; named = tt })
 names_found (w ∷ ws) names e =
-    let first = bind_ok (name_in w) (λ (name : List ℕ). names_in ws >>= λ (more : List (List ℕ)). Ok (name ∷ more)) names e in
+    let first = bind_ok (name_in w) (λ (name : List ℕ). names_in ws >>= λ (more : List (List ℕ)). Ok (name ∷ more))
+    names e in
     let rest = bind_ok (names_in ws) (λ (more : List (List ℕ)). Ok (first.0 ∷ more)) names first.2 in
     let name = name_found w first.0 first.1 in
     let more = names_found ws rest.0 rest.1 in
@@ -51,7 +53,8 @@ alone_found (w ∷ ws) end name e =
     let told = name_found w first.0 first.1 in
     let here : is_name first.0 ≡ true = subst (λ (n : List ℕ). is_name n ≡ true) told.1 told.0 in
     subst (λ (n : List ℕ). AreRead (w ∷ ws) (n ∷ [])) (ok_is rest.2) (record {
-      words = ap (λ (vs : List Placed). w.bytes ∷ map bytes_of vs) (no_more_found ws rest.0 rest.1) ∙ ap (λ (n : List ℕ). n ∷ []) told.1;
+      words = ap (λ (vs : List Placed). w.bytes ∷ map bytes_of vs) (no_more_found ws rest.0 rest.1)
+          ∙ ap (λ (n : List ℕ). n ∷ []) told.1;
       named = (here, tt);
     })
 
@@ -81,12 +84,15 @@ length_words (w ∷ ws) = ap suc (length_words ws)
 pub four_found : (ws : List Placed) (end : ℕ) (names : List (List ℕ)) → four_names ws end ≡ Ok names → AreFour ws names
 unfolding four_names
 four_found ws end names e =
-    let front = bind_ok (names_in (take 4 ws)) (λ (ns : List (List ℕ)). at_least 4 ws end >>= λ (t : ⊤). no_more (drop 4 ws) >>= λ (u : ⊤). Ok ns) names e in
-    let enough = bind_ok (at_least 4 ws end) (λ (t : ⊤). no_more (drop 4 ws) >>= λ (u : ⊤). Ok front.0) names front.2 in
+    let front = bind_ok (names_in (take 4 ws)) (λ (ns : List (List ℕ)). at_least 4 ws end >>= λ (t : ⊤). no_more
+    (drop 4 ws) >>= λ (u : ⊤). Ok ns) names e in
+    let enough = bind_ok (at_least 4 ws end) (λ (t : ⊤). no_more (drop 4 ws) >>= λ (u : ⊤). Ok front.0) names front.2
+    in
     let none = bind_ok (no_more (drop 4 ws)) (λ (u : ⊤). Ok front.0) names enough.2 in
     let past : drop 4 ws ≡ [] = no_more_found (drop 4 ws) none.0 none.1 in
     let all : take 4 ws ≡ ws = four_long ws past in
-    let read : AreRead ws front.0 = subst (λ (vs : List Placed). AreRead vs front.0) all (names_found (take 4 ws) front.0 front.1) in
+    let read : AreRead ws front.0 = subst (λ (vs : List Placed). AreRead vs front.0) all
+    (names_found (take 4 ws) front.0 front.1) in
     let some : 4 ≤ length ws = enough_found 4 ws end enough.0 enough.1 in
     let few : length ws - 4 ≡ 0 = sym (length-drop 4 ws) ∙ ap length past in
     let long : length front.0 ≡ length ws = sym (ap length read.words) ∙ length_words ws in
@@ -107,10 +113,12 @@ unfolding first_word
 some_found [] end w e = absurd (not_ok e)
 some_found (v ∷ ws) end w e = omega arith
 
-pub registers_found : (ws : List Placed) (end : ℕ) (names : List (List ℕ)) → register_names ws end ≡ Ok names → AreRegisters ws names
+pub registers_found : (ws : List Placed) (end : ℕ) (names : List (List ℕ)) → register_names ws end ≡ Ok names
+    → AreRegisters ws names
 unfolding register_names
 registers_found ws end names e =
-    let none = bind_ok (none_past (drop 64 ws)) (λ (t : ⊤). first_word ws end >>= λ (w : Placed). names_in ws) names e in
+    let none = bind_ok (none_past (drop 64 ws)) (λ (t : ⊤). first_word ws end >>= λ (w : Placed). names_in ws) names e
+    in
     let first = bind_ok (first_word ws end) (λ (w : Placed). names_in ws) names none.2 in
     let past : drop 64 ws ≡ [] = past_found (drop 64 ws) none.0 none.1 in
     let read : AreRead ws names = names_found ws names first.2 in
@@ -119,7 +127,8 @@ registers_found ws end names e =
     let long : length names ≡ length ws = sym (ap length read.words) ∙ length_words ws in
     record { read = read; some = omega arith; few = omega arith }
 
-pub new_found : (names : List (List ℕ)) (ws : List Placed) (all : List (List ℕ)) → with_new names ws ≡ Ok all → all ≡ names ++ map bytes_of ws
+pub new_found : (names : List (List ℕ)) (ws : List Placed) (all : List (List ℕ)) → with_new names ws ≡ Ok all
+    → all ≡ names ++ map bytes_of ws
 unfolding with_new
 new_found names [] all e = sym (ok_is e) ∙ sym (append-nil names)
 new_found names (w ∷ ws) all e = elim (chosen (has w.bytes names) _ _ (Ok all) e) [
@@ -128,8 +137,10 @@ new_found names (w ∷ ws) all e = elim (chosen (has w.bytes names) _ _ (Ok all)
 ]
 
 -- the names behind a line
-pub new_are : (names before : List (List ℕ)) (ws : List Placed) (all read : List (List ℕ)) → names ≡ before → with_new names ws ≡ Ok all → map bytes_of ws ≡ read → all ≡ before ++ read
-new_are names before ws all read h e f = new_found names ws all e ∙ ap (λ (ns : List (List ℕ)). names ++ ns) f ∙ ap (λ (ns : List (List ℕ)). ns ++ read) h
+pub new_are : (names before : List (List ℕ)) (ws : List Placed) (all read : List (List ℕ)) → names ≡ before
+    → with_new names ws ≡ Ok all → map bytes_of ws ≡ read → all ≡ before ++ read
+new_are names before ws all read h e f = new_found names ws all e ∙ ap (λ (ns : List (List ℕ)). names ++ ns) f
+    ∙ ap (λ (ns : List (List ℕ)). ns ++ read) h
 
 pub all_none : {A : Type 0} (P : A → Type 0) → All P []
 all_none P k d h = absurd (omega (arith, h))

@@ -1,5 +1,7 @@
 -- The turns of the loops over the names of a line.
-use Rattle.std.proofs.Common.{◌≡◌, ℕ, ◌+◌, ◌<◌, ◌≤◌, List, [], ◌∷◌, ◌++◌, Bool, true, false, Result, Ok, Err, refl, ap, sym, ◌∙◌, length, drop, map, get_or, append_assoc, append-nil, min, arith, ◌⊎◌, inl, inr}
+use Rattle.std.proofs.Common.{◌≡◌, ℕ, ◌+◌, ◌<◌, ◌≤◌, List, [], ◌∷◌, ◌++◌, Bool, true, false, Result, Ok, Err, refl}
+use Rattle.std.proofs.Common.{ap, sym, ◌∙◌, length, drop, map, get_or, append_assoc, append-nil, min, arith, ◌⊎◌, inl}
+use Rattle.std.proofs.Common.{inr}
 use Rattle.std.proofs.lemmas.List.{at_drop_more, drop_all}
 use Rattle.std.specs.Prelude.{not, cond}
 use Rattle.po_text.specs.declared.fault.Kind.TheVariants as kind
@@ -32,7 +34,8 @@ name_on : (names : List (List ℕ)) (name : List ℕ) (w : Placed) (ws : List Pl
 unfolding names_in
 name_on names name w ws e = rw e (one_more names name (names_in ws))
 
-name_fails : (names : List (List ℕ)) (e : LineError) (w : Placed) (ws : List Placed) → Fails e (name_in w) → Fails e (prepend names (names_in (w ∷ ws)))
+name_fails : (names : List (List ℕ)) (e : LineError) (w : Placed) (ws : List Placed) → Fails e (name_in w)
+    → Fails e (prepend names (names_in (w ∷ ws)))
 unfolding names_in
 name_fails names (error.Fault f) w ws h = rw h refl
 name_fails names error.Memory w ws h = tt
@@ -42,35 +45,46 @@ unfolding names_in
 names_end names = ap Ok (append-nil names)
 
 -- the word is the next one
-next_word : {Y : Type 0} (F : List Placed → Y) (words : List Word) (i : ℕ) (w : Word) → i < length words → w ≡ get_or words i w
+next_word : {Y : Type 0} (F : List Placed → Y) (words : List Word) (i : ℕ) (w : Word) → i < length words
+    → w ≡ get_or words i w
     → F (map seen (drop i words)) ≡ F (seen w ∷ map seen (drop (i + 1) words))
 next_word F words i w h is =
-    at_drop_more (λ (ws : List Word). F (map seen ws)) words i w h ∙ ap (λ (v : Word). F (seen v ∷ map seen (drop (i + 1) words))) (sym is)
+    at_drop_more (λ (ws : List Word). F (map seen ws)) words i w h
+    ∙ ap (λ (v : Word). F (seen v ∷ map seen (drop (i + 1) words))) (sym is)
 
 -- no word is left
-no_word : {Y : Type 0} (F : List Placed → Y) (words : List Word) (i : ℕ) → length words ≤ i → F (map seen (drop i words)) ≡ F []
+no_word : {Y : Type 0} (F : List Placed → Y) (words : List Word) (i : ℕ) → length words ≤ i
+    → F (map seen (drop i words)) ≡ F []
 no_word F words i h = ap (λ (ws : List Word). F (map seen ws)) (drop_all i words h)
 
-pub names_on : (words : List Word) (i : ℕ) (w : Word) (names : List (List ℕ)) (name : List ℕ) (r : Result (List (List ℕ)) LineFault) → i < length words → w ≡ get_or words i w
-    → name_in (seen w) ≡ Ok name → prepend names (names_in (map seen (drop i words))) ≡ r → prepend (names ++ name ∷ []) (names_in (map seen (drop (i + 1) words))) ≡ r
+pub names_on : (words : List Word) (i : ℕ) (w : Word) (names : List (List ℕ)) (name : List ℕ)
+    (r : Result (List (List ℕ)) LineFault) → i < length words → w ≡ get_or words i w
+    → name_in (seen w) ≡ Ok name → prepend names (names_in (map seen (drop i words))) ≡ r
+    → prepend (names ++ name ∷ []) (names_in (map seen (drop (i + 1) words))) ≡ r
 names_on words i w names name r h is e read =
-    sym (next_word (λ ws. prepend names (names_in ws)) words i w h is ∙ name_on names name (seen w) (map seen (drop (i + 1) words)) e) ∙ read
+    sym (next_word (λ ws. prepend names (names_in ws)) words i w h is ∙ name_on names name (seen w)
+    (map seen (drop (i + 1) words)) e) ∙ read
 
-pub names_fail : (words : List Word) (i : ℕ) (w : Word) (names : List (List ℕ)) (e : LineError) (r : Result (List (List ℕ)) LineFault) → i < length words → w ≡ get_or words i w
+pub names_fail : (words : List Word) (i : ℕ) (w : Word) (names : List (List ℕ)) (e : LineError)
+    (r : Result (List (List ℕ)) LineFault) → i < length words → w ≡ get_or words i w
     → Fails e (name_in (seen w)) → prepend names (names_in (map seen (drop i words))) ≡ r → Fails e r
 names_fail words i w names e r h is fails read =
-    let told : prepend names (names_in (seen w ∷ map seen (drop (i + 1) words))) ≡ r = sym (next_word (λ ws. prepend names (names_in ws)) words i w h is) ∙ read in
+    let told : prepend names (names_in (seen w ∷ map seen (drop (i + 1) words))) ≡ r =
+    sym (next_word (λ ws. prepend names (names_in ws)) words i w h is) ∙ read in
     rw (← told) (name_fails names e (seen w) (map seen (drop (i + 1) words)) fails)
 
-pub names_done : (words : List Word) (i : ℕ) (names : List (List ℕ)) (r : Result (List (List ℕ)) LineFault) → length words ≤ i
+pub names_done : (words : List Word) (i : ℕ) (names : List (List ℕ)) (r : Result (List (List ℕ)) LineFault)
+    → length words ≤ i
     → prepend names (names_in (map seen (drop i words))) ≡ r → r ≡ Ok names
 names_done words i names r h read = sym read ∙ no_word (λ ws. prepend names (names_in ws)) words i h ∙ names_end names
 
-new_on : (names : List (List ℕ)) (w : Placed) (ws : List Placed) → has w.bytes names ≡ false → with_new names (w ∷ ws) ≡ with_new (names ++ w.bytes ∷ []) ws
+new_on : (names : List (List ℕ)) (w : Placed) (ws : List Placed) → has w.bytes names ≡ false → with_new names (w ∷ ws)
+    ≡ with_new (names ++ w.bytes ∷ []) ws
 unfolding with_new
 new_on names w ws e = rw e refl
 
-new_fails : (names : List (List ℕ)) (w : Placed) (ws : List Placed) → has w.bytes names ≡ true → with_new names (w ∷ ws) ≡ Err (fault w.column kind.Duplicate)
+new_fails : (names : List (List ℕ)) (w : Placed) (ws : List Placed) → has w.bytes names ≡ true
+    → with_new names (w ∷ ws) ≡ Err (fault w.column kind.Duplicate)
 unfolding with_new
 new_fails names w ws e = rw e refl
 
@@ -78,17 +92,22 @@ new_end : (names : List (List ℕ)) → with_new names [] ≡ Ok names
 unfolding with_new
 new_end names = refl
 
-pub new_names_on : (words : List Word) (i : ℕ) (w : Word) (names : List (List ℕ)) (r : Result (List (List ℕ)) LineFault) → i < length words → w ≡ get_or words i w
-    → has w.bytes.now names ≡ false → with_new names (map seen (drop i words)) ≡ r → with_new (names ++ w.bytes.now ∷ []) (map seen (drop (i + 1) words)) ≡ r
+pub new_names_on : (words : List Word) (i : ℕ) (w : Word) (names : List (List ℕ))
+    (r : Result (List (List ℕ)) LineFault) → i < length words → w ≡ get_or words i w
+    → has w.bytes.now names ≡ false → with_new names (map seen (drop i words)) ≡ r
+    → with_new (names ++ w.bytes.now ∷ []) (map seen (drop (i + 1) words)) ≡ r
 new_names_on words i w names r h is e read =
     sym (next_word (with_new names) words i w h is ∙ new_on names (seen w) (map seen (drop (i + 1) words)) e) ∙ read
 
-pub new_names_fail : (words : List Word) (i : ℕ) (w : Word) (names : List (List ℕ)) (r : Result (List (List ℕ)) LineFault) → i < length words → w ≡ get_or words i w
-    → has w.bytes.now names ≡ true → with_new names (map seen (drop i words)) ≡ r → r ≡ Err (fault w.column kind.Duplicate)
+pub new_names_fail : (words : List Word) (i : ℕ) (w : Word) (names : List (List ℕ))
+    (r : Result (List (List ℕ)) LineFault) → i < length words → w ≡ get_or words i w
+    → has w.bytes.now names ≡ true → with_new names (map seen (drop i words)) ≡ r
+    → r ≡ Err (fault w.column kind.Duplicate)
 new_names_fail words i w names r h is e read =
     sym read ∙ next_word (with_new names) words i w h is ∙ new_fails names (seen w) (map seen (drop (i + 1) words)) e
 
-pub new_names_done : (words : List Word) (i : ℕ) (names : List (List ℕ)) (r : Result (List (List ℕ)) LineFault) → length words ≤ i
+pub new_names_done : (words : List Word) (i : ℕ) (names : List (List ℕ)) (r : Result (List (List ℕ)) LineFault)
+    → length words ≤ i
     → with_new names (map seen (drop i words)) ≡ r → r ≡ Ok names
 new_names_done words i names r h read = sym read ∙ no_word (with_new names) words i h ∙ new_end names
 

@@ -1,5 +1,6 @@
 -- Names that all differ are new, one behind the other.
-use Rattle.std.proofs.Common.{◌≡◌, ◌≢◌, ℕ, suc, ◌<◌, List, [], ◌∷◌, ◌++◌, Bool, true, false, refl, sym, ◌∙◌, subst, length, length-append, get_or, append_assoc, append-nil, arith}
+use Rattle.std.proofs.Common.{◌≡◌, ◌≢◌, ℕ, suc, ◌<◌, List, [], ◌∷◌, ◌++◌, Bool, true, false, refl, sym, ◌∙◌, subst}
+use Rattle.std.proofs.Common.{length, length-append, get_or, append_assoc, append-nil, arith}
 use Rattle.std.specs.Prelude.{nat_eq, ◌||◌}
 use Rattle.std.specs.Cmp.Lexicographic.{pointwise}
 use Rattle.std.proofs.Math.ListN.{get_or-append}
@@ -14,7 +15,8 @@ neither : (a : Bool) (b : Bool) → (a ≡ true → ⊥) → b ≡ false → (a 
 neither true b h e = absurd (h refl)
 neither false b h e = e
 
-has_not : (name : List ℕ) (names : List (List ℕ)) → ((k : ℕ) (d : List ℕ) → k < length names → get_or names k d ≢ name) → has name names ≡ false
+has_not : (name : List ℕ) (names : List (List ℕ)) → ((k : ℕ) (d : List ℕ) → k < length names → get_or names k d ≢
+    name) → has name names ≡ false
 has_not name [] h = refl
 has_not name (x ∷ xs) h =
     let no = λ (e : pointwise nat_eq name x ≡ true). h 0 name (omega arith) (sym (same_found name x e)) in
@@ -26,7 +28,8 @@ new_from before [] h = tt
 new_from before (n ∷ ns) h =
     let long = length-append before (n ∷ ns) in
     let apart = λ (k : ℕ) (d : List ℕ) (g : k < length before). (λ (e : get_or before k d ≡ n).
-    h k (length before) d g (omega arith) (get_or-append before (n ∷ ns) d k g ∙ e ∙ sym (get_or-append_seam before n ns d))) in
+    h k (length before) d g (omega arith) (get_or-append before (n ∷ ns) d k g ∙ e
+    ∙ sym (get_or-append_seam before n ns d))) in
     (has_not n before apart, new_from (before ++ n ∷ []) ns (subst Differ (sym (append_assoc before (n ∷ []) ns)) h))
 
 pub new_front : (before xs ys : List (List ℕ)) → AreNew before (xs ++ ys) → AreNew before xs
@@ -35,7 +38,8 @@ new_front before (x ∷ xs) ys h = (h.0, new_front (before ++ x ∷ []) xs ys h.
 
 pub new_back : (before xs ys : List (List ℕ)) → AreNew before (xs ++ ys) → AreNew (before ++ xs) ys
 new_back before [] ys h = subst (λ (b : List (List ℕ)). AreNew b ys) (sym (append-nil before)) h
-new_back before (x ∷ xs) ys h = subst (λ (b : List (List ℕ)). AreNew b ys) (append_assoc before (x ∷ []) xs) (new_back (before ++ x ∷ []) xs ys h.1)
+new_back before (x ∷ xs) ys h = subst (λ (b : List (List ℕ)). AreNew b ys) (append_assoc before (x ∷ []) xs)
+    (new_back (before ++ x ∷ []) xs ys h.1)
 
 pub names_front : (xs ys : List (List ℕ)) → AreNames (xs ++ ys) → AreNames xs
 names_front [] ys h = tt

@@ -1,5 +1,6 @@
 -- The line of an entry is read as that entry, begins with its word, and is plain.
-use Rattle.std.proofs.Common.{◌≡◌, ℕ, ◌+◌, ◌≤◌, ◌==◌, List, [], ◌∷◌, ◌++◌, Bool, true, false, Ok, refl, sym, ap, subst, map, All, codes, arith}
+use Rattle.std.proofs.Common.{◌≡◌, ℕ, ◌+◌, ◌≤◌, ◌==◌, List, [], ◌∷◌, ◌++◌, Bool, true, false, Ok, refl, sym, ap}
+use Rattle.std.proofs.Common.{subst, map, All, codes, arith}
 use Rattle.std.specs.Prelude.{⊤, cond}
 use Rattle.std.specs.List.{AllByRecursion}
 use Rattle.std.proofs.lemmas.Bool.Decides.{nat_tests}
@@ -27,7 +28,9 @@ abbrev StartsFrom : ℕ → List Span → Type 0
 StartsFrom at [] = ⊤
 StartsFrom at (word ∷ words) = at ≤ word.start
 
-joined_by : (b : Bool) (at : ℕ) (word : Span) (words : List Span) → StartsFrom at (cond b (record { start = at; end = word.end } ∷ words) (record { start = at; end = at + 1 } ∷ (word ∷ words)))
+joined_by : (b : Bool) (at : ℕ) (word : Span) (words : List Span)
+    → StartsFrom at (cond b (record { start = at; end = word.end } ∷ words) (record { start = at; end = at + 1 }
+    ∷ (word ∷ words)))
 joined_by true at word words = omega arith
 joined_by false at word words = omega arith
 
@@ -39,7 +42,8 @@ later : (at : ℕ) (words : List Span) → StartsFrom (at + 1) words → StartsF
 later at [] h = tt
 later at (word ∷ words) h = omega (arith, h)
 
-starts_by : (b : Bool) (at : ℕ) (words : List Span) → StartsFrom (at + 1) words → StartsFrom at (cond b words (with_byte at words))
+starts_by : (b : Bool) (at : ℕ) (words : List Span) → StartsFrom (at + 1) words
+    → StartsFrom at (cond b words (with_byte at words))
 starts_by true at words h = later at words h
 starts_by false at words h = with_starts at words
 
@@ -51,8 +55,10 @@ last_byte : (words : List Span) → StartsFrom 5 words → with_byte 3 words ≡
 last_byte [] h = refl
 last_byte (word ∷ words) h = let no : (word.start == 4) ≡ false = grind (arith, nat_tests) in rw no refl
 
-first_word : (others : List ℕ) → words_from 0 (codes "insn" ++ (32 ∷ others)) ≡ record { start = 0; end = 4 } ∷ words_from 5 others
-first_word others = ap (λ (ws : List Span). with_byte 0 (with_byte 1 (with_byte 2 ws))) (last_byte (words_from 5 others) (starts others 5))
+first_word : (others : List ℕ) → words_from 0 (codes "insn" ++ (32 ∷ others)) ≡ record { start = 0; end = 4 }
+    ∷ words_from 5 others
+first_word others = ap (λ (ws : List Span). with_byte 0 (with_byte 1 (with_byte 2 ws)))
+    (last_byte (words_from 5 others) (starts others 5))
 
 begins : (others : List ℕ) → BeginsWith (codes "insn") (map (λ w. w.bytes) (words_in (codes "insn" ++ (32 ∷ others))))
 unfolding words_in
@@ -63,7 +69,8 @@ read_again e h =
     let b = entry_begins e in
     record {
       again = entry_again e h;
-      first = subst (λ (text : List ℕ). BeginsWith (codes "insn") (map (λ w. w.bytes) (words_in text))) (sym b.is) (begins b.others);
+      first = subst (λ (text : List ℕ). BeginsWith (codes "insn") (map (λ w. w.bytes) (words_in text))) (sym b.is)
+          (begins b.others);
       plain = entry_plain e h;
     }
 

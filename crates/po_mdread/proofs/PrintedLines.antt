@@ -1,5 +1,6 @@
 -- Lines that are printed with their line feeds are these lines again.
-use Rattle.std.proofs.Common.{◌≡◌, ℕ, zero, suc, ◌+◌, ◌-◌, ◌≤◌, List, [], ◌∷◌, ◌++◌, true, false, refl, ap, ◌∙◌, subst, length, length-append, take, drop, min, append_assoc, arith}
+use Rattle.std.proofs.Common.{◌≡◌, ℕ, zero, suc, ◌+◌, ◌-◌, ◌≤◌, List, [], ◌∷◌, ◌++◌, true, false, refl, ap, ◌∙◌}
+use Rattle.std.proofs.Common.{subst, length, length-append, take, drop, min, append_assoc, arith}
 use Rattle.std.specs.Prelude.{◌==◌, nat_lt, slice_index}
 use Rattle.std.specs.List.{AllByRecursion, position_or_len}
 use Rattle.std.specs.Str.Lines.{strip_carriage_return}
@@ -47,12 +48,17 @@ until_plain x more h =
     rw (within, first_part x (10 ∷ more)) (strip_plain x h)
 
 line_by : (n o t : ℕ) (got x rest more : List ℕ) → got ≡ x → t ≡ length x + 1 → rest ≡ more
-    → ◌≡◌ {A = List Numbered} (record { number = n; bytes = got; after = o + t } ∷ lines_from (n + 1) (o + t) rest) (record { number = n; bytes = x; after = o + length x + 1 } ∷ lines_from (n + 1) (o + length x + 1) more)
+    → ◌≡◌ {A = List Numbered} (record { number = n; bytes = got; after = o + t } ∷ lines_from (n + 1) (o + t) rest)
+    (record { number = n; bytes = x; after = o + length x + 1 } ∷ lines_from (n + 1) (o + length x + 1) more)
 line_by n o t got x rest more e f g =
     let far : o + t ≡ o + length x + 1 = omega arith in
     rw (e, far, g) refl
 
-one_line : (n o : ℕ) (x more : List ℕ) → IsPlain x → lines_from n o (x ++ 10 ∷ more) ≡ record { number = n; bytes = x; after = o + length x + 1 } ∷ lines_from (n + 1) (o + length x + 1) more
+one_line : (n o : ℕ) (x more : List ℕ) → IsPlain x → lines_from n o (x ++ 10 ∷ more) ≡ record {
+  number = n;
+  bytes = x;
+  after = o + length x + 1;
+} ∷ lines_from (n + 1) (o + length x + 1) more
 one_line n o x more h =
     let all : List ℕ = x ++ 10 ∷ more in
     let long = length-append x (10 ∷ more) in
@@ -60,16 +66,22 @@ one_line n o x more h =
     let at : length x ≡ min (position_or_len is_feed all) (length all) = omega arith in
     let taken : min (length all) (length x + 1) ≡ length x + 1 = omega arith in
     let next : suc (length x) ≡ min (length all) (length x + 1) = omega arith in
-    let rest : drop (min (length all) (length x + 1)) all ≡ more = subst (λ (k : ℕ). drop k all ≡ more) next (rest_part x more 10) in
-    first_line_is n o all (length x) at (omega arith) ∙ line_by n o (min (length all) (length x + 1)) (line_until all (length x)) x (drop (min (length all) (length x + 1)) all) more (until_plain x more h) taken rest
+    let rest : drop (min (length all) (length x + 1)) all ≡ more = subst (λ (k : ℕ). drop k all ≡ more) next
+    (rest_part x more 10) in
+    first_line_is n o all (length x) at (omega arith) ∙ line_by n o (min (length all) (length x + 1))
+    (line_until all (length x)) x (drop (min (length all) (length x + 1)) all) more (until_plain x more h) taken
+    rest
 
 -- these lines, the first with this number and at this offset
 abbrev pub numbered : ℕ → ℕ → List (List ℕ) → List Numbered
 numbered n o [] = []
-numbered n o (x ∷ xs) = record { number = n; bytes = x; after = o + length x + 1 } ∷ numbered (n + 1) (o + length x + 1) xs
+numbered n o (x ∷ xs) = record { number = n; bytes = x; after = o + length x + 1 } ∷ numbered (n + 1)
+    (o + length x + 1) xs
 
-pub lines_again : (xs : List (List ℕ)) (n o : ℕ) → AllByRecursion IsPlain xs → lines_from n o (lines_text xs) ≡ numbered n o xs
+pub lines_again : (xs : List (List ℕ)) (n o : ℕ) → AllByRecursion IsPlain xs → lines_from n o (lines_text xs)
+    ≡ numbered n o xs
 lines_again [] n o h = ended n o [] refl
 lines_again (x ∷ xs) n o h =
     ap (lines_from n o) (append_assoc x (10 ∷ []) (lines_text xs)) ∙ one_line n o x (lines_text xs) h.0
-    ∙ ap (λ (ls : List Numbered). record { number = n; bytes = x; after = o + length x + 1 } ∷ ls) (lines_again xs (n + 1) (o + length x + 1) h.1)
+    ∙ ap (λ (ls : List Numbered). record { number = n; bytes = x; after = o + length x + 1 } ∷ ls)
+    (lines_again xs (n + 1) (o + length x + 1) h.1)

@@ -1,5 +1,6 @@
 -- A printed head line has its words.
-use Rattle.std.proofs.Common.{◌≡◌, ℕ, ◌<◌, ◌≤◌, List, [], ◌∷◌, ◌++◌, Bool, true, false, refl, map, length, arith, ◌⊎◌, inl, inr}
+use Rattle.std.proofs.Common.{◌≡◌, ℕ, ◌<◌, ◌≤◌, List, [], ◌∷◌, ◌++◌, Bool, true, false, refl, map, length, arith, ◌⊎◌}
+use Rattle.std.proofs.Common.{inl, inr}
 use Rattle.std.specs.Prelude.{nat_le, ◌==◌, ◌&&◌, ◌||◌}
 use Rattle.std.specs.List.{AllByRecursion, list_all, join_with_byte}
 use Rattle.std.proofs.lemmas.Bool.{false≢true}
@@ -43,7 +44,8 @@ no_blank b h = grind (arith, nat_tests)
 
 solid_bytes : (bs : List ℕ) → list_all is_name_byte bs ≡ true → AllByRecursion (λ b. is_blank b ≡ false) bs
 solid_bytes [] h = tt
-solid_bytes (b ∷ bs) h = let p = both (is_name_byte b) (list_all is_name_byte bs) h in (no_blank b (low_byte b p.0), solid_bytes bs p.1)
+solid_bytes (b ∷ bs) h = let p = both (is_name_byte b) (list_all is_name_byte bs) h in
+    (no_blank b (low_byte b p.0), solid_bytes bs p.1)
 
 plain_bytes : (bs : List ℕ) → list_all is_name_byte bs ≡ true → IsPlain bs
 plain_bytes [] h = tt
@@ -73,10 +75,13 @@ plain_both : (xs ys : List ℕ) → IsPlain xs → IsPlain ys → IsPlain (xs ++
 plain_both [] ys h g = g
 plain_both (x ∷ xs) ys h g = (h.0, plain_both xs ys h.1 g)
 
-pub head_plain : (text : List ℕ) (names : List (List ℕ)) → IsPlain text → AreNames names → IsPlain (head_text text names)
+pub head_plain : (text : List ℕ) (names : List (List ℕ)) → IsPlain text → AreNames names
+    → IsPlain (head_text text names)
 head_plain text [] h g = h
-head_plain text (n ∷ ns) h g = plain_both text (32 ∷ join_with_byte 32 (n ∷ ns)) h (omega arith, head_plain n ns (plain_name n g.0) g.1)
+head_plain text (n ∷ ns) h g = plain_both text (32 ∷ join_with_byte 32 (n ∷ ns)) h
+    (omega arith, head_plain n ns (plain_name n g.0) g.1)
 
 -- the words of a printed head line
-pub head_words : (text : List ℕ) (names : List (List ℕ)) → IsSolid text → AreNames names → map bytes_of (words_in (head_text text names)) ≡ text ∷ names
+pub head_words : (text : List ℕ) (names : List (List ℕ)) → IsSolid text → AreNames names
+    → map bytes_of (words_in (head_text text names)) ≡ text ∷ names
 head_words text names h g = words_again (text ∷ names) (h, solid_names names g)

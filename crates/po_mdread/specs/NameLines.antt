@@ -40,7 +40,9 @@ register_names ws end = do
   some ← first_word ws end
   names_in ws
 
--- these names, and behind them those of the line, which all have to be new; the first that is there already is at fault
+-- these names, and behind them those of the line, which all have to be new; the first that is there already is at
+-- fault
 unfoldable pub with_new : List (List ℕ) → List Placed → Result (List (List ℕ)) LineFault
 with_new names [] = Ok names
-with_new names (w ∷ ws) = if has w.bytes names then Err (fault w.column kind.Duplicate) else with_new (names ++ w.bytes ∷ []) ws
+with_new names (w ∷ ws) = if has w.bytes names then Err (fault w.column kind.Duplicate)
+    else with_new (names ++ w.bytes ∷ []) ws

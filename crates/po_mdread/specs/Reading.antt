@@ -1,5 +1,6 @@
 -- What the lines of a description say of its machine, one behind the other, or the first fault that a line decides.
-use Rattle.std.specs.Prelude.{◌≡◌, ℕ, ◌+◌, ◌≤◌, List, [], ◌∷◌, ◌++◌, length, All, codes, Bool, true, false, ◌==◌, if◌then◌else◌, Result, Ok, Err}
+use Rattle.std.specs.Prelude.{◌≡◌, ℕ, ◌+◌, ◌≤◌, List, [], ◌∷◌, ◌++◌, length, All, codes, Bool, true, false, ◌==◌}
+use Rattle.std.specs.Prelude.{if◌then◌else◌, Result, Ok, Err}
 use Rattle.po_text.specs.declared.fault.Kind.TheVariants as kind
 use Rattle.po_text.specs.declared.fault.Spot.{Spot}
 use Rattle.po_lines.specs.declared.fault.LineFault.{LineFault}
@@ -14,7 +15,8 @@ use Rattle.po_model.specs.declared.machine.Machine.{Machine}
 use Rattle.po_model.specs.Entries.{IsEntry}
 use Rattle.po_entry.specs.Reading.{entry_in}
 use Rattle.po_mdread.specs.declared.sofar.Sofar.{Sofar}
-use Rattle.po_mdread.specs.declared.sofar.Sofar.TheVariants.{ToMachine, ToFrame, ToResult, ToArgs, ToRegs, ToEntries, Ended}
+use Rattle.po_mdread.specs.declared.sofar.Sofar.TheVariants.{ToMachine, ToFrame, ToResult, ToArgs, ToRegs, ToEntries}
+use Rattle.po_mdread.specs.declared.sofar.Sofar.TheVariants.{Ended}
 use Rattle.po_mdread.specs.declared.sofar.State.{State}
 use Rattle.po_mdread.specs.NameLines.{four_names, register_names, with_new}
 
@@ -71,7 +73,14 @@ abbrev pub behind : Numbered → Spot
 behind l = record { offset = l.after; line = l.number + 1 }
 
 abbrev pub with_entry : Machine → Entry → Machine
-with_entry m e = record { name = m.name; frame = m.frame; result = m.result; args = m.args; regs = m.regs; entries = m.entries ++ e ∷ [] }
+with_entry m e = record {
+  name = m.name;
+  frame = m.frame;
+  result = m.result;
+  args = m.args;
+  regs = m.regs;
+  entries = m.entries ++ e ∷ [];
+}
 
 -- an `insn` line; there may be 512
 unfoldable pub insn_line : Machine → Numbered → Result Sofar LineFault
@@ -134,8 +143,8 @@ finish line (ToRegs name frame result args) = Err (text_fault line 1 kind.Word)
 finish line (ToEntries m) = Err (text_fault line 1 kind.Word)
 finish line (Ended m at) = Ok (m, at)
 
--- the machine that these lines describe and the place behind its `end`, or the first fault; `line` is the number of the
--- line behind the last
+-- the machine that these lines describe and the place behind its `end`, or the first fault; `line` is the number of
+-- the line behind the last
 unfoldable pub described : List Numbered → ℕ → Result (Machine × Spot) TextFault
 described ls line = do
   s ← read_each step ToMachine ls

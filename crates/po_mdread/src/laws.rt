@@ -19,6 +19,8 @@ pub fn printed_again()
 /// is the one behind it (docs/DESCRIPTION.md). In the one direction the entries have to be allowed, as those that
 /// `read_machine` gives are.
 pub fn what_is_described()
-    ensures read { (ls : List Numbered) → (n : ℕ) → (m : Machine) → (at : Spot) → described ls n ≡ Ok (m, at) → All IsEntry m.entries → BeginWith ls m at }
-    ensures described { (ls : List Numbered) → (n : ℕ) → (m : Machine) → (at : Spot) → BeginWith ls m at → described ls n ≡ Ok (m, at) }
+    ensures read { (ls : List Numbered) → (n : ℕ) → (m : Machine) → (at : Spot) → described ls n ≡ Ok (m, at)
+        → All IsEntry m.entries → BeginWith ls m at }
+    ensures described { (ls : List Numbered) → (n : ℕ) → (m : Machine) → (at : Spot) → BeginWith ls m at
+        → described ls n ≡ Ok (m, at) }
 {}

@@ -71,7 +71,8 @@ pub fn result_line(
     end: u32,
 ) -> Result<State, LineError>
     requires { names ≡ frame ∷ [] }
-    ensures gives { Gives (λ s. s.sofar) result (reading.result_line name frame (seen first.now) (map seen rest.now) end) }
+    ensures gives { Gives (λ s. s.sofar) result (reading.result_line name frame (seen first.now) (map seen rest.now)
+        end) }
     ensures kept { IfOk result IsState }
 {
     keyword(first, b"result")?;
@@ -96,7 +97,8 @@ pub fn args_line(
     end: u32,
 ) -> Result<State, LineError>
     requires { names ≡ frame ∷ result_name ∷ [] }
-    ensures gives { Gives (λ s. s.sofar) result (reading.args_line name frame result_name (seen first.now) (map seen rest.now) end) }
+    ensures gives { Gives (λ s. s.sofar) result (reading.args_line name frame result_name (seen first.now)
+        (map seen rest.now) end) }
     ensures kept { IfOk result IsState }
 {
     keyword(first, b"args")?;
@@ -122,7 +124,8 @@ pub fn regs_line(
     end: u32,
 ) -> Result<State, LineError>
     requires { names ≡ frame ∷ result_name ∷ args }
-    ensures gives { Gives (λ s. s.sofar) result (reading.regs_line name frame result_name args (seen first.now) (map seen rest.now) end) }
+    ensures gives { Gives (λ s. s.sofar) result (reading.regs_line name frame result_name args (seen first.now)
+        (map seen rest.now) end) }
     ensures kept { IfOk result IsState }
 {
     keyword(first, b"regs")?;
@@ -194,7 +197,8 @@ pub fn entry_line(
 ) -> Result<Sofar, LineError>
     requires short { length line.now.bytes.now ≤ 4096 }
     requires entries { All IsEntry machine.entries }
-    ensures gives { Gives (λ s. s) result (reading.entry_line machine (line_of line.now) (seen first.now) (map seen rest.now)) }
+    ensures gives { Gives (λ s. s) result (reading.entry_line machine (line_of line.now) (seen first.now)
+        (map seen rest.now)) }
     ensures names { IfOk result (λ s. reading.names_sofar s ≡ reading.names_sofar (Sofar.ToEntries machine)) }
     ensures entries { IfOk result (λ s. All IsEntry (reading.entries_sofar s)) }
 {

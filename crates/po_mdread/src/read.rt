@@ -30,7 +30,8 @@ fn some_line(
 ) -> Result<State, LineError>
     requires state { IsState state }
     requires short { length line.now.bytes.now ≤ 4096 }
-    ensures gives { Gives (λ s. s.sofar) result (reading.some_line state.sofar (line_of line.now) (seen first.now) (map seen rest.now)) }
+    ensures gives { Gives (λ s. s.sofar) result (reading.some_line state.sofar (line_of line.now) (seen first.now)
+        (map seen rest.now)) }
     ensures kept { IfOk result IsState }
 {
     let end = end_column(line.bytes);
@@ -61,7 +62,8 @@ fn some_line(
 fn words_line(alloc: Global, state: State, line: &Line, words: &[Word]) -> Result<State, LineError>
     requires state { IsState state }
     requires short { length line.now.bytes.now ≤ 4096 }
-    ensures gives { Gives (λ s. s.sofar) result (reading.words_line state.sofar (line_of line.now) (map seen words.now)) }
+    ensures gives { Gives (λ s. s.sofar) result (reading.words_line state.sofar (line_of line.now)
+        (map seen words.now)) }
     ensures kept { IfOk result IsState }
 {
     match words {
@@ -109,7 +111,8 @@ fn step(alloc: Global, state: State, line: &Line) -> Result<State, TextRefusal>
 /// The lines that are ahead, up to `end` or to the end of the text.
 fn read_lines(alloc: Global, lines: &mut Lines) -> Result<Sofar, TextRefusal>
     ensures gets { Gets (λ s. s) result (read_each reading.step Sofar.ToMachine lines.old.lines) }
-    ensures number { IfOk result (λ s. reading.has_ended s ≡ false → lines.new.line ≡ lines.old.line + length lines.old.lines) }
+    ensures number { IfOk result (λ s. reading.has_ended s ≡ false → lines.new.line ≡ lines.old.line + length
+        lines.old.lines) }
     ensures entries { IfOk result (λ s. All IsEntry (reading.entries_sofar s)) }
 {
     let mut state = State {

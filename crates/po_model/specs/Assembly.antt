@@ -1,5 +1,7 @@
--- The assembly of a unit: its name, the name of each label, and for each instruction the filled template of the entry that it fits.
-use Rattle.std.specs.Prelude.{ℕ, suc, ◌≡◌, nat_lt, Bool, List, [], ◌∷◌, ◌++◌, Option, Some, None, codes, slice_get, unwrap_or, if◌then◌else◌}
+-- The assembly of a unit: its name, the name of each label, and for each instruction the filled template of the entry
+-- that it fits.
+use Rattle.std.specs.Prelude.{ℕ, suc, ◌≡◌, nat_lt, Bool, List, [], ◌∷◌, ◌++◌, Option, Some, None, codes, slice_get}
+use Rattle.std.specs.Prelude.{unwrap_or, if◌then◌else◌}
 use Rattle.std.specs.List.{flat_map}
 use Rattle.std.specs.Fmt.{signed_decimal}
 use Rattle.po_word.specs.Words.{signed}

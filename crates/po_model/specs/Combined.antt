@@ -1,7 +1,7 @@
 -- Slow combination: what becomes of a pair of instructions A and B on a machine, with what is live after B.
 --
--- The pair is joined, and the joint list has to fit an entry. `combined` is read over any kind of constants; at `words` and `code_leaves` it
--- is slow combination itself.
+-- The pair is joined, and the joint list has to fit an entry. `combined` is read over any kind of constants; at
+-- `words` and `code_leaves` it is slow combination itself.
 use Rattle.std.specs.Prelude.{ℕ, Bool, List, Option, Some, None}
 use Rattle.po_term.specs.declared.term.Reg.{Reg as Register}
 use Rattle.po_term.specs.declared.term.Sym.{Sym}
@@ -34,7 +34,8 @@ module _ {K L R S : Type 0} (k : Kind K) (leaves : Leaves L R S) (m : Machine) w
   abbrev pub recognised : Bool → Joint K L R S → Met K (Combination K L R S)
   recognised cc_live joint.NotJoined = give Kept
   recognised cc_live joint.NothingLeft = give Gone
-  recognised cc_live (joint.AsOne ms) = and_then (first_fit leaves k cc_live m.entries 0 ms) (λ found. give (if_fit ms found))
+  recognised cc_live (joint.AsOne ms) = and_then (first_fit leaves k cc_live m.entries 0 ms)
+      (λ found. give (if_fit ms found))
 
   -- what becomes of A and B, where `live` says of each register whether it is live after B
   abbrev pub combined : (R → Bool) → Bool → List (Move K L R S) → List (Move K L R S) → Met K (Combination K L R S)

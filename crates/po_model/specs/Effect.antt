@@ -31,7 +31,8 @@ after s ms = record {
   cc = new_cc s (cc_of ms);
 }
 
--- where the code goes on: behind the instruction, at a label, in what is called with these words, or nowhere with a word returned
+-- where the code goes on: behind the instruction, at a label, in what is called with these words, or nowhere with a
+-- word returned
 pub data Control : Type 0 where
   Next : Control
   Jump : Label → Control

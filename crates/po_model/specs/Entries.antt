@@ -1,5 +1,6 @@
 -- The entries that a description may have.
-use Rattle.std.specs.Prelude.{ℕ, ◌<◌, ◌≤◌, ◌≡◌, ◌≢◌, ◌^◌, pos, negsuc, int_le, List, [], ◌∷◌, ◌++◌, length, flat_map, All, AllPairs, Contains, Bool, true, false, IsTrue, Option, Some, None, ⊤}
+use Rattle.std.specs.Prelude.{ℕ, ◌<◌, ◌≤◌, ◌≡◌, ◌≢◌, ◌^◌, pos, negsuc, int_le, List, [], ◌∷◌, ◌++◌, length, flat_map}
+use Rattle.std.specs.Prelude.{All, AllPairs, Contains, Bool, true, false, IsTrue, Option, Some, None, ⊤}
 use Rattle.po_term.specs.declared.term.Reg.TheVariants.{Fp}
 use Rattle.po_term.specs.Tree.{Const, Leaf, Read, Unary, Binary, tree_size, tree_depth, EachConst, EachLeaf}
 use Rattle.po_term.specs.Form.{IsFixed, InOrder}
@@ -9,7 +10,8 @@ use Rattle.po_model.specs.declared.machine.PatReg.TheVariants as register
 use Rattle.po_model.specs.declared.machine.Piece.{Piece}
 use Rattle.po_model.specs.declared.machine.Piece.TheVariants as piece
 use Rattle.po_model.specs.declared.machine.Entry.{Entry}
-use Rattle.po_model.specs.Patterns.{PatConst, Exactly, Operand, PatLeaf, InPatReg, AtSymbol, PatTree, PatMove, SetsTo, Compares, Stores, Jumps, Branches, BranchesOn, Calls, Returns, pat_moves_of}
+use Rattle.po_model.specs.Patterns.{PatConst, Exactly, Operand, PatLeaf, InPatReg, AtSymbol, PatTree, PatMove, SetsTo}
+use Rattle.po_model.specs.Patterns.{Compares, Stores, Jumps, Branches, BranchesOn, Calls, Returns, pat_moves_of}
 
 abbrev pub IsPatReg : PatReg → Type 0
 IsPatReg (register.Any k) = k < 10

@@ -1,9 +1,11 @@
--- Which entry a list of transfers fits: the first one whose pattern it has and whose questions all have the answer yes.
+-- Which entry a list of transfers fits: the first one whose pattern it has and whose questions all have the answer
+-- yes.
 --
--- The structure is compared first, without a question: the number of transfers, their kinds, relations and operators, fixed
--- registers, and what stands again at a repeated operand. Then the constants are asked from left to right.
--- At `words` and `code_leaves` this is recognition. At another kind of constants it is the same reading over them.
-use Rattle.std.specs.Prelude.{ℕ, suc, Bool, true, false, ◌&&◌, ◌==◌, nat_lt, if◌then◌else◌, List, [], ◌∷◌, ◌++◌, Option, Some, None}
+-- The structure is compared first, without a question: the number of transfers, their kinds, relations and operators,
+-- fixed registers, and what stands again at a repeated operand. Then the constants are asked from left to right. At
+-- `words` and `code_leaves` this is recognition. At another kind of constants it is the same reading over them.
+use Rattle.std.specs.Prelude.{ℕ, suc, Bool, true, false, ◌&&◌, ◌==◌, nat_lt, if◌then◌else◌, List, [], ◌∷◌, ◌++◌}
+use Rattle.std.specs.Prelude.{Option, Some, None}
 use Rattle.std.specs.List.{list_all}
 use Rattle.po_word.specs.Words.{signed}
 use Rattle.po_word.specs.Exprs.{Ask, Within, Same}
@@ -18,7 +20,8 @@ use Rattle.po_model.specs.declared.machine.PatReg.TheVariants as pat
 use Rattle.po_model.specs.declared.machine.Bounds.{Bounds}
 use Rattle.po_model.specs.declared.machine.Entry.{Entry}
 use Rattle.po_model.specs.declared.machine.Machine.{Machine}
-use Rattle.po_model.specs.Patterns.{PatConst, Exactly, Operand, PatLeaf, InPatReg, AtSymbol, PatTree, PatMove, SetsTo, Compares, Stores, Jumps, Branches, BranchesOn, Calls, Returns, pat_moves_of}
+use Rattle.po_model.specs.Patterns.{PatConst, Exactly, Operand, PatLeaf, InPatReg, AtSymbol, PatTree, PatMove, SetsTo}
+use Rattle.po_model.specs.Patterns.{Compares, Stores, Jumps, Branches, BranchesOn, Calls, Returns, pat_moves_of}
 use Rattle.po_model.specs.Operators.{un_eq, bin_eq, rel_eq}
 use Rattle.po_model.specs.Parts.{Leaves, code_leaves}
 
@@ -29,7 +32,8 @@ pub data Thing (K R S : Type 0) : Type 0 where
   ASymbol : S → Thing K R S
   ALabel : Label → Thing K R S
 
--- what stands at a place of a pattern: at its number n a constant, or at the operand k, which may have a range, a thing
+-- what stands at a place of a pattern: at its number n a constant, or at the operand k, which may have a range, a
+-- thing
 pub data Found (K R S : Type 0) : Type 0 where
   AtNumber : ℕ → K → Found K R S
   AtOperand : ℕ → Option Bounds → Thing K R S → Found K R S
@@ -63,7 +67,8 @@ module _ {K R S : Type 0} where
   operand_of k (AtNumber n c ∷ fs) = operand_of k fs
   operand_of k (AtOperand j range x ∷ fs) = if k == j then Some x else operand_of k fs
 
-  -- the question at a constant: at its first place whether it lies in the range, at a later one whether it is the first
+  -- the question at a constant: at its first place whether it lies in the range, at a later one whether it is the
+  -- first
   abbrev pub constant_question : Option (Thing K R S) → Option Bounds → K → List (Ask K)
   constant_question (Some (AConstant d)) range c = Same d c ∷ []
   constant_question first range c = range_question range c
@@ -82,7 +87,8 @@ module _ {K R S : Type 0} where
   only_if true fs = Some fs
   only_if false fs = None
 
-  abbrev pub or_later : ℕ → Option (List (Found K R S)) → Met K (Option (ℕ × List (Found K R S))) → Met K (Option (ℕ × List (Found K R S)))
+  abbrev pub or_later : ℕ → Option (List (Found K R S)) → Met K (Option (ℕ × List (Found K R S)))
+      → Met K (Option (ℕ × List (Found K R S)))
   or_later n None later = later
   or_later n (Some fs) later = give (Some (n, fs))
 
@@ -116,7 +122,8 @@ module _ {K L R S : Type 0} (leaves : Leaves L R S) where
   move_found (Stores p q) (StoreTo t u) = both (tree_found p t) (tree_found q u)
   move_found (Jumps k) (Ends (GoTo l)) = target_found k l
   move_found (Branches r k) (Ends (IfCc s l)) = if rel_eq r s then target_found k l else None
-  move_found (BranchesOn p q r k) (Ends (IfTwo t u s l)) = if rel_eq r s then both (both (tree_found p t) (tree_found q u)) (target_found k l) else None
+  move_found (BranchesOn p q r k) (Ends (IfTwo t u s l)) = if rel_eq r s
+      then both (both (tree_found p t) (tree_found q u)) (target_found k l) else None
   move_found (Calls k) (Ends (CallOf s n)) = symbol_found k (Some s)
   move_found Returns (Ends Return) = Some []
   move_found p m = None
@@ -148,16 +155,19 @@ module _ {K L R S : Type 0} (leaves : Leaves L R S) where
 
   abbrev pub answered : Kind K → Option (List (Found K R S)) → Met K (Option (List (Found K R S)))
   answered k None = give None
-  answered k (Some fs) = if all_agree fs then and_then (all_yes k (questions [] fs)) (λ yes. give (only_if yes fs)) else give None
+  answered k (Some fs) = if all_agree fs then and_then (all_yes k (questions [] fs)) (λ yes. give (only_if yes fs))
+      else give None
 
   -- what is found at an entry that fits; an entry that clobbers cc fits only where cc is dead
   abbrev pub entry_fit : Kind K → Bool → Entry → List (Move K L R S) → Met K (Option (List (Found K R S)))
-  entry_fit k cc_live e ms = if e.clobbers && cc_live then give None else answered k (moves_found (pat_moves_of e.pattern) ms)
+  entry_fit k cc_live e ms = if e.clobbers && cc_live then give None
+      else answered k (moves_found (pat_moves_of e.pattern) ms)
 
   -- the first of these entries, numbered from n on, that fits, and what is found at it
   abbrev pub first_fit : Kind K → Bool → List Entry → ℕ → List (Move K L R S) → Met K (Option (ℕ × List (Found K R S)))
   first_fit k cc_live [] n ms = give None
-  first_fit k cc_live (e ∷ es) n ms = and_then (entry_fit k cc_live e ms) (λ fit. or_later n fit (first_fit k cc_live es (suc n) ms))
+  first_fit k cc_live (e ∷ es) n ms = and_then (entry_fit k cc_live e ms)
+      (λ fit. or_later n fit (first_fit k cc_live es (suc n) ms))
 
 -- which entry of a machine a list of transfers fits, with what is found at it
 abbrev pub fit : Machine → Bool → PlainInstr → Option (ℕ × List (Found ℕ Reg Sym))

@@ -30,7 +30,8 @@ module _ (code : List PlainBlock) where
 
   -- each instruction fits an entry
   abbrev pub IsRecognised : Machine → Type 0
-  IsRecognised m = (live : ℕ → ℕ → Bool) × TellsCc live × ((b i : ℕ) → i < length (instrs_at code b) → FitsAt m live b i)
+  IsRecognised m = (live : ℕ → ℕ → Bool) × TellsCc live × ((b i : ℕ) → i < length (instrs_at code b)
+      → FitsAt m live b i)
 
   -- one place stands before another
   abbrev pub IsBefore : ℕ → ℕ → ℕ → ℕ → Type 0

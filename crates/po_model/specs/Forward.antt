@@ -1,7 +1,7 @@
 -- Whether two addresses meet, and what a term becomes that is read after an instruction.
 --
--- An address has a base and an offset: c has the offset c and no base, (u + c) the base u and the offset c, and any other term
--- is its own base without an offset.
+-- An address has a base and an offset: c has the offset c and no base, (u + c) the base u and the offset c, and any
+-- other term is its own base without an offset.
 use Rattle.std.specs.Prelude.{Bool, true, false, if◌then◌else◌, List, Option, Some, None}
 use Rattle.po_word.specs.Exprs.{Ask, Zero}
 use Rattle.po_word.specs.Exprs as asked
@@ -56,7 +56,8 @@ module _ {K L R S : Type 0} (k : Kind K) (leaves : Leaves L R S) where
   agree (Leaf l) (Leaf m) = give (leaves.same_leaf l m)
   agree (Read x) (Read y) = agree x y
   agree (Unary o x) (Unary p y) = if un_eq o p then agree x y else give false
-  agree (Binary o x y) (Binary p u v) = if bin_eq o p then and_then (agree x u) (λ yes. if yes then agree y v else give false) else give false
+  agree (Binary o x y) (Binary p u v) = if bin_eq o p then and_then (agree x u) (λ yes. if yes then agree y v
+      else give false) else give false
   agree a b = give false
 
   -- at one base, the addresses are one where their offsets are, and apart elsewhere
@@ -81,10 +82,12 @@ module _ {K L R S : Type 0} (k : Kind K) (leaves : Leaves L R S) where
   read_after None q = give (Some (Read q))
   read_after (Some stored) q = and_then (alias_of stored.0 q) (λ meets. give (by_alias meets stored.1 q))
 
-  -- the term t, read after the instruction A, as a term that is read before it; none where a read may or may not meet A's store
+  -- the term t, read after the instruction A, as a term that is read before it; none where a read may or may not meet
+  -- A's store
   abbrev pub forward : List (Move K L R S) → Tree K L → Met K (Option (Tree K L))
   forward a (Const c) = give (Some (Const c))
   forward a (Leaf l) = give (Some (right_or (right_at leaves l a) l))
   forward a (Read x) = and_some (forward a x) (λ q. read_after (store_of a) q)
   forward a (Unary o x) = and_some (forward a x) (λ t. some_of (unary_of k leaves.same_register o t))
-  forward a (Binary o x y) = and_some (forward a x) (λ t. and_some (forward a y) (λ u. some_of (binary_of k leaves.same_register o t u)))
+  forward a (Binary o x y) = and_some (forward a x) (λ t. and_some (forward a y)
+      (λ u. some_of (binary_of k leaves.same_register o t u)))

@@ -1,12 +1,15 @@
--- The rule of a pair: its shape, the questions that slow combination of the shape asks with the answers of the pair's constants, and
--- what it ends with.
+-- The rule of a pair: its shape, the questions that slow combination of the shape asks with the answers of the pair's
+-- constants, and what it ends with.
 --
--- Slow combination is read over the shape: its constants are expressions, a fold writes an expression, and each question is answered by
--- the pair's constants. A question without a hole is left out, and so is one that equals an earlier one.
-use Rattle.std.specs.Prelude.{ℕ, Bool, true, false, not, ◌&&◌, ◌||◌, ◌==◌, if◌then◌else◌, List, [], ◌∷◌, ◌++◌, Option, Some, None}
+-- Slow combination is read over the shape: its constants are expressions, a fold writes an expression, and each
+-- question is answered by the pair's constants. A question without a hole is left out, and so is one that equals an
+-- earlier one.
+use Rattle.std.specs.Prelude.{ℕ, Bool, true, false, not, ◌&&◌, ◌||◌, ◌==◌, if◌then◌else◌, List, [], ◌∷◌, ◌++◌, Option}
+use Rattle.std.specs.Prelude.{Some, None}
 use Rattle.std.specs.List.{list_any}
 use Rattle.std.specs.Ordering.{int_eq}
-use Rattle.po_word.specs.Exprs.{Expr, Number, AtHole, UnOf, BinOf, Log2Of, Ask, Zero, One, Ones, Pow2, Within, Same, Related, ask_map, is_so, expr_value}
+use Rattle.po_word.specs.Exprs.{Expr, Number, AtHole, UnOf, BinOf, Log2Of, Ask, Zero, One, Ones, Pow2, Within, Same}
+use Rattle.po_word.specs.Exprs.{Related, ask_map, is_so, expr_value}
 use Rattle.po_term.specs.Kinds.{Met, exprs}
 use Rattle.po_term.specs.Simplified.{reg_eq}
 use Rattle.po_model.specs.declared.machine.Machine.{Machine}
@@ -102,7 +105,8 @@ asks_hole (Related r x y) = has_hole x || has_hole y
 
 -- the questions that are kept, with one more that is met: where it has a hole and isn't there yet
 abbrev pub keep_asked : List ℕ → Asked → Ask Expr → Asked
-keep_asked ws kept q = if asks_hole q && not (list_any (λ qa. ask_eq q qa.0) kept) then kept ++ (q, is_so (ask_map (expr_value ws) q)) ∷ [] else kept
+keep_asked ws kept q = if asks_hole q && not (list_any (λ qa. ask_eq q qa.0) kept)
+    then kept ++ (q, is_so (ask_map (expr_value ws) q)) ∷ [] else kept
 
 abbrev pub path : List ℕ → Asked → List (Ask Expr) → Asked
 path ws kept [] = kept

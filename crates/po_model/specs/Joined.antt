@@ -1,5 +1,6 @@
 -- The one list of transfers that two instructions A and B come to, with what is live after B.
-use Rattle.std.specs.Prelude.{Bool, true, false, not, ◌&&◌, ◌||◌, if◌then◌else◌, List, [], ◌∷◌, ◌++◌, filter, Option, Some, None, is_some}
+use Rattle.std.specs.Prelude.{Bool, true, false, not, ◌&&◌, ◌||◌, if◌then◌else◌, List, [], ◌∷◌, ◌++◌, filter, Option}
+use Rattle.std.specs.Prelude.{Some, None, is_some}
 use Rattle.std.specs.List.{list_any}
 use Rattle.po_word.specs.declared.operator.Rel.{Rel}
 use Rattle.po_term.specs.declared.term.Alias.{Alias}
@@ -79,10 +80,12 @@ module _ {K L R S : Type 0} where
   is_kept leaves live cc_live b (StoreTo t u) = not (is_some (store_of b))
   is_kept leaves live cc_live b (Ends e) = false
 
-  -- the list of what stays of A and of B: a is A simplified, wanted is B without what isn't live, and b is that with its terms
-  -- forwarded through a
-  abbrev pub assembled : Leaves L R S → (R → Bool) → Bool → List (Move K L R S) → List (Move K L R S) → List (Move K L R S) → List (Move K L R S)
-  assembled leaves live cc_live a wanted b = filter (λ m. not (is_idle leaves m)) (in_order (filter (is_kept leaves live cc_live wanted) a ++ b))
+  -- the list of what stays of A and of B: a is A simplified, wanted is B without what isn't live, and b is that with
+  -- its terms forwarded through a
+  abbrev pub assembled : Leaves L R S → (R → Bool) → Bool → List (Move K L R S) → List (Move K L R S)
+      → List (Move K L R S) → List (Move K L R S)
+  assembled leaves live cc_live a wanted b = filter (λ m. not (is_idle leaves m))
+      (in_order (filter (is_kept leaves live cc_live wanted) a ++ b))
 
 module _ {K L R S : Type 0} (k : Kind K) (leaves : Leaves L R S) where
   -- a branch on cc: it compares what A compares, where A does
@@ -93,20 +96,26 @@ module _ {K L R S : Type 0} (k : Kind K) (leaves : Leaves L R S) where
   -- a transfer with its terms forwarded through A, from left to right, and then a branch on two constants decided
   abbrev pub forward_move : List (Move K L R S) → Move K L R S → Met K (Option (List (Move K L R S)))
   forward_move a (SetTo r t) = and_some (forward k leaves a t) (λ x. give (Some (SetTo r x ∷ [])))
-  forward_move a (CcTo t u) = and_some (forward k leaves a t) (λ x. and_some (forward k leaves a u) (λ y. give (Some (CcTo x y ∷ []))))
-  forward_move a (StoreTo t u) = and_some (forward k leaves a t) (λ x. and_some (forward k leaves a u) (λ y. give (Some (StoreTo x y ∷ []))))
-  forward_move a (Ends (IfTwo t u r l)) = and_some (forward k leaves a t) (λ x. and_some (forward k leaves a u) (λ y. some_of (decided k leaves.same_register x y r l)))
+  forward_move a (CcTo t u) = and_some (forward k leaves a t)
+      (λ x. and_some (forward k leaves a u) (λ y. give (Some (CcTo x y ∷ []))))
+  forward_move a (StoreTo t u) = and_some (forward k leaves a t)
+      (λ x. and_some (forward k leaves a u) (λ y. give (Some (StoreTo x y ∷ []))))
+  forward_move a (Ends (IfTwo t u r l)) = and_some (forward k leaves a t)
+      (λ x. and_some (forward k leaves a u) (λ y. some_of (decided k leaves.same_register x y r l)))
   forward_move a (Ends (IfCc r l)) = some_of (forward_branch (cc_of a) r l)
   forward_move a (Ends e) = give (Some (Ends e ∷ []))
 
   abbrev pub forward_moves : List (Move K L R S) → List (Move K L R S) → Met K (Option (List (Move K L R S)))
   forward_moves a [] = give (Some [])
-  forward_moves a (m ∷ ms) = and_some (forward_move a m) (λ xs. and_some (forward_moves a ms) (λ ys. give (Some (xs ++ ys))))
+  forward_moves a (m ∷ ms) = and_some (forward_move a m)
+      (λ xs. and_some (forward_moves a ms) (λ ys. give (Some (xs ++ ys))))
 
 module _ {K L R S : Type 0} (k : Kind K) (leaves : Leaves L R S) (live : R → Bool) (cc_live : Bool) where
-  abbrev pub with_forwarded : List (Move K L R S) → List (Move K L R S) → Option (List (Move K L R S)) → Met K (Joint K L R S)
+  abbrev pub with_forwarded : List (Move K L R S) → List (Move K L R S) → Option (List (Move K L R S))
+      → Met K (Joint K L R S)
   with_forwarded a wanted None = give NotJoined
-  with_forwarded a wanted (Some b) = and_then (covers k leaves (store_of a) (store_of b)) (λ yes. give (if yes then listed (assembled leaves live cc_live a wanted b) else NotJoined))
+  with_forwarded a wanted (Some b) = and_then (covers k leaves (store_of a) (store_of b))
+      (λ yes. give (if yes then listed (assembled leaves live cc_live a wanted b) else NotJoined))
 
   abbrev pub join_simple : List (Move K L R S) → List (Move K L R S) → Met K (Joint K L R S)
   join_simple a wanted = and_then (forward_moves k leaves a wanted) (λ b. with_forwarded a wanted b)
@@ -115,4 +124,5 @@ module _ {K L R S : Type 0} (k : Kind K) (leaves : Leaves L R S) (live : R → B
   abbrev pub joined : List (Move K L R S) → List (Move K L R S) → Met K (Joint K L R S)
   joined a b =
       if list_any is_control a || list_any is_away b then give NotJoined
-      else and_then (simple_moves k leaves.same_register a) (λ simple_a. join_simple simple_a (filter (is_wanted live cc_live) b))
+      else and_then (simple_moves k leaves.same_register a)
+      (λ simple_a. join_simple simple_a (filter (is_wanted live cc_live) b))

@@ -1,4 +1,5 @@
--- When what two instructions A and B do, one after the other, can't be told apart from something else, as far as it is seen.
+-- When what two instructions A and B do, one after the other, can't be told apart from something else, as far as it
+-- is seen.
 use Rattle.std.specs.Prelude.{ℕ, ◌≡◌, Bool, true, not, ◌||◌, ◌&&◌, Option, Some, None, is_some, ⊤}
 use Rattle.po_term.specs.declared.term.Reg.{Reg as Register}
 use Rattle.po_term.specs.Terms.{Place, InReg, AtSym, State}
@@ -39,8 +40,8 @@ effect_of_both a b s = then_effect b (effect a s)
 
 -- after A and B, with what is live there
 module _ (live : Register → Bool) (cc_live : Bool) (a b : PlainInstr) where
-  -- two ends that can't be told apart: the code goes on alike, and each word of memory is the same, each register that is live or that
-  -- neither sets, and cc where it is live or neither sets it
+  -- two ends that can't be told apart: the code goes on alike, and each word of memory is the same, each register
+  -- that is live or that neither sets, and cc where it is live or neither sets it
   pub record SameEnd (d e : Effected) : Type 0 where
     pub control : d.to ≡ e.to
     pub memory : (c : ℕ) → d.state.memory c ≡ e.state.memory c

@@ -1,8 +1,9 @@
 -- How a foreground goes on with a scan by a list of rules, what a bounded queue does, and how a rule is learned.
 --
--- Each pair that stands ready is looked up. A rule that has it as an instance gives the outcome (a hit); slow combination does where there
--- is none (a miss).
-use Rattle.std.specs.Prelude.{ℕ, ◌≡◌, ◌≢◌, nat_lt, if◌then◌else◌, List, [], ◌∷◌, ◌++◌, length, All, Contains, Option, Some, None}
+-- Each pair that stands ready is looked up. A rule that has it as an instance gives the outcome (a hit); slow
+-- combination does where there is none (a miss).
+use Rattle.std.specs.Prelude.{ℕ, ◌≡◌, ◌≢◌, nat_lt, if◌then◌else◌, List, [], ◌∷◌, ◌++◌, length, All, Contains, Option}
+use Rattle.std.specs.Prelude.{Some, None}
 use Rattle.po_model.specs.declared.machine.Machine.{Machine}
 use Rattle.po_model.specs.Pairs.{PlainPair, WellFormedPair}
 use Rattle.po_model.specs.Combined.{Answer, combination}

@@ -1,4 +1,5 @@
--- What is live after an instruction: a register or cc that some path from there reads before it sets it. fp is live everywhere.
+-- What is live after an instruction: a register or cc that some path from there reads before it sets it. fp is live
+-- everywhere.
 use Rattle.std.specs.Prelude.{ℕ, suc, ◌≡◌, nat_lt, Bool, true, false, ◌||◌, List, [], ◌∷◌, drop}
 use Rattle.std.specs.List.{list_any}
 use mathlib.Core.Logic.{◌⊎◌}

@@ -80,19 +80,23 @@ module _ (labels syms : List Text) where
   abbrev pub pieces : ℕ → List ℕ → List Op → List Piece
   pieces k stack [] = []
   pieces k stack (op.Con n ∷ os) = Does (SetTo (Virt k) (Const n)) ∷ pieces (k + 1) (k ∷ stack) os
-  pieces k stack (op.Adl n ∷ os) = Does (SetTo (Virt k) (Binary Add (register Fp) (Const n))) ∷ pieces (k + 1) (k ∷ stack) os
+  pieces k stack (op.Adl n ∷ os) = Does (SetTo (Virt k) (Binary Add (register Fp) (Const n))) ∷ pieces (k + 1)
+      (k ∷ stack) os
   pieces k stack (op.Adg s ∷ os) = Does (SetTo (Virt k) (Leaf (AtSym (symbol s)))) ∷ pieces (k + 1) (k ∷ stack) os
   pieces k (a ∷ stack) (op.Lod ∷ os) = Does (SetTo (Virt k) (Read (virt a))) ∷ pieces (k + 1) (k ∷ stack) os
   pieces k (b ∷ a ∷ stack) (op.Sto ∷ os) = Does (StoreTo (virt a) (virt b)) ∷ pieces k stack os
-  pieces k (b ∷ a ∷ stack) (op.Bin o ∷ os) = Does (SetTo (Virt k) (Binary o (virt a) (virt b))) ∷ pieces (k + 1) (k ∷ stack) os
+  pieces k (b ∷ a ∷ stack) (op.Bin o ∷ os) = Does (SetTo (Virt k) (Binary o (virt a) (virt b))) ∷ pieces (k + 1)
+      (k ∷ stack) os
   pieces k (a ∷ stack) (op.Un o ∷ os) = Does (SetTo (Virt k) (Unary o (virt a))) ∷ pieces (k + 1) (k ∷ stack) os
   pieces k (a ∷ stack) (op.Dup ∷ os) = pieces k (a ∷ a ∷ stack) os
   pieces k (a ∷ stack) (op.Pop ∷ os) = pieces k stack os
   pieces k stack (op.Lab l ∷ os) = Mark (label l) ∷ pieces k stack os
   pieces k stack (op.Jmp l ∷ os) = Does (Ends (GoTo (label l))) ∷ pieces k stack os
-  pieces k (b ∷ a ∷ stack) (op.Br r l ∷ os) = Does (CcTo (virt a) (virt b)) ∷ Does (Ends (IfCc r (label l))) ∷ pieces k stack os
+  pieces k (b ∷ a ∷ stack) (op.Br r l ∷ os) = Does (CcTo (virt a) (virt b)) ∷ Does (Ends (IfCc r (label l))) ∷ pieces
+      k stack os
   pieces k (a ∷ stack) (op.Arg n ∷ os) = Does (SetTo (Arg n) (virt a)) ∷ pieces k stack os
-  pieces k stack (op.Call f n ∷ os) = Does (Ends (CallOf (symbol f) n)) ∷ Does (SetTo (Virt k) (register Rv)) ∷ pieces (k + 1) (k ∷ stack) os
+  pieces k stack (op.Call f n ∷ os) = Does (Ends (CallOf (symbol f) n)) ∷ Does (SetTo (Virt k) (register Rv)) ∷ pieces
+      (k + 1) (k ∷ stack) os
   pieces k (a ∷ stack) (op.Ret ∷ os) = Does (SetTo Rv (virt a)) ∷ Does (Ends Return) ∷ pieces k stack os
   -- in a unit each operation finds what it takes
   pieces k stack (o ∷ os) = []
@@ -107,12 +111,13 @@ unless_blank None [] = []
 unless_blank None (i ∷ is) = record { label = None; instrs = i ∷ is } ∷ []
 unless_blank (Some l) is = record { label = Some l; instrs = is } ∷ []
 
--- the blocks of these pieces, where one has begun with this label and these instructions: it ends before a label, unless it is
--- blank, and behind a control transfer
+-- the blocks of these pieces, where one has begun with this label and these instructions: it ends before a label,
+-- unless it is blank, and behind a control transfer
 abbrev pub cut : Option Label → List PlainInstr → List Piece → List PlainBlock
 cut named is [] = unless_blank named is
 cut named is (Mark l ∷ ps) = unless_blank named is ++ cut (Some l) [] ps
-cut named is (Does m ∷ ps) = if is_some (ending_of (m ∷ [])) then record { label = named; instrs = is ++ (m ∷ []) ∷ [] } ∷ cut None [] ps
+cut named is (Does m ∷ ps) = if is_some (ending_of (m ∷ []))
+    then record { label = named; instrs = is ++ (m ∷ []) ∷ [] } ∷ cut None [] ps
     else cut named (is ++ (m ∷ []) ∷ []) ps
 
 abbrev pub blocks_in : List Text → List Text → List Op → List PlainBlock

@@ -75,5 +75,6 @@ module _ {K L R S : Type 0} where
   -- the right side that a leaf is set to
   abbrev pub right_at : Leaves L R S → L → List (Move K L R S) → Option (Tree K L)
   right_at leaves l [] = None
-  right_at leaves l (SetTo r t ∷ ms) = if leaves.same_register l (leaves.in_register r) then Some t else right_at leaves l ms
+  right_at leaves l (SetTo r t ∷ ms) = if leaves.same_register l (leaves.in_register r) then Some t
+      else right_at leaves l ms
   right_at leaves l (m ∷ ms) = right_at leaves l ms

@@ -1,5 +1,7 @@
--- Placed code: the transfers of a code with each virtual register replaced by its machine register, and what they do on the machine.
-use Rattle.std.specs.Prelude.{ℕ, suc, Bool, false, if◌then◌else◌, List, [], ◌∷◌, map, length, slice_get, Option, Some, None}
+-- Placed code: the transfers of a code with each virtual register replaced by its machine register, and what they do
+-- on the machine.
+use Rattle.std.specs.Prelude.{ℕ, suc, Bool, false, if◌then◌else◌, List, [], ◌∷◌, map, length, slice_get, Option, Some}
+use Rattle.std.specs.Prelude.{None}
 use Rattle.std.specs.Option.{option_map}
 use Rattle.po_term.specs.declared.term.Reg.{Reg as Register}
 use Rattle.po_term.specs.declared.term.Reg.TheVariants.{Virt, Fp, Rv, Arg}
@@ -50,11 +52,12 @@ effect_on clobbers x s = option_map (λ d. record { state = unless_clobbered clo
 
 -- a machine, and the machine register of each virtual register
 module _ (m : Machine) (at : ℕ → ℕ) where
-  -- what the placed instructions from the i-th of a block on do, where cc is live after those that live tells: the entry of each is
-  -- that of the instruction before placement
+  -- what the placed instructions from the i-th of a block on do, where cc is live after those that live tells: the
+  -- entry of each is that of the instruction before placement
   abbrev pub placed_from : (ℕ → Bool) → ℕ → List PlainInstr → List Doing
   placed_from live i [] = []
-  placed_from live i (x ∷ xs) = effect_on (found_clobbers m (fit m (live i) x)) (placed_instr at x) ∷ placed_from live (suc i) xs
+  placed_from live i (x ∷ xs) = effect_on (found_clobbers m (fit m (live i) x)) (placed_instr at x) ∷ placed_from live
+      (suc i) xs
 
   -- what the placed instructions of each block of a code do
   abbrev pub placed_doings : List PlainBlock → (ℕ → ℕ → Bool) → ℕ → List Doing
@@ -64,7 +67,7 @@ module _ (m : Machine) (at : ℕ → ℕ) where
 abbrev pub placed_at : Machine → List PlainBlock → ℕ → ℕ
 placed_at m code v = machine_of (registers (length m.regs) (flat code)) v
 
--- n blocks of the placed code of a code, where `at` says which machine register each virtual register has, and live tells after which
--- instructions cc is live
+-- n blocks of the placed code of a code, where `at` says which machine register each virtual register has, and live
+-- tells after which instructions cc is live
 abbrev pub run_placed : Machine → (ℕ → ℕ) → List PlainBlock → (ℕ → ℕ → Bool) → ℕ → Run → Option Run
 run_placed m at code live n r = run_blocks code (placed_doings m at code live) n r

@@ -1,8 +1,10 @@
--- Placement: the interval of each virtual register, the machine register that it gets, and the points that are crowded.
+-- Placement: the interval of each virtual register, the machine register that it gets, and the points that are
+-- crowded.
 --
--- The instructions of a code are numbered p = 0, 1, .. over all its blocks. Instruction p reads at the point 2 * p and writes at the
--- point 2 * p + 1.
-use Rattle.std.specs.Prelude.{ℕ, zero, suc, ◌+◌, ◌*◌, ◌≤◌, ◌<◌, ◌≡◌, ◌≢◌, ◌==◌, ◌&&◌, nat_le, Bool, IsTrue, List, [], ◌∷◌, ◌++◌, map, reverse, count_by, AllPairs, if◌then◌else◌}
+-- The instructions of a code are numbered p = 0, 1, .. over all its blocks. Instruction p reads at the point 2 * p
+-- and writes at the point 2 * p + 1.
+use Rattle.std.specs.Prelude.{ℕ, zero, suc, ◌+◌, ◌*◌, ◌≤◌, ◌<◌, ◌≡◌, ◌≢◌, ◌==◌, ◌&&◌, nat_le, Bool, IsTrue, List, []}
+use Rattle.std.specs.Prelude.{◌∷◌, ◌++◌, map, reverse, count_by, AllPairs, if◌then◌else◌}
 use Rattle.std.specs.List.{list_any}
 use Rattle.po_term.specs.declared.term.Reg.TheVariants.{Virt}
 use Rattle.po_model.specs.declared.var.Var.TheVariants.{Reg}
@@ -64,7 +66,8 @@ abbrev pub lowest_from : List PlacedInterval → ℕ → ℕ → ℕ → ℕ
 lowest_from done point r zero = r
 lowest_from done point r (suc n) = if is_taken done point r then lowest_from done point (suc r) n else r
 
--- each interval, in order, gets the lowest of n registers that no earlier interval containing its start has; the last one stands first
+-- each interval, in order, gets the lowest of n registers that no earlier interval containing its start has; the last
+-- one stands first
 abbrev pub place_from : ℕ → List PlacedInterval → List Interval → List PlacedInterval
 place_from n done [] = done
 place_from n done (i ∷ is) = place_from n (record { interval = i; machine = lowest_from done i.start 0 n } ∷ done) is
@@ -87,4 +90,5 @@ machine_of (x ∷ xs) v = if x.0 == v then x.1 else machine_of xs v
 
 -- no two of these whose intervals share a point have one machine register
 abbrev pub AreApart : List PlacedInterval → Type 0
-AreApart placed = AllPairs (λ a b. (point : ℕ) → IsTrue (contains a.interval point) → IsTrue (contains b.interval point) → a.machine ≢ b.machine) placed
+AreApart placed = AllPairs (λ a b. (point : ℕ) → IsTrue (contains a.interval point)
+    → IsTrue (contains b.interval point) → a.machine ≢ b.machine) placed

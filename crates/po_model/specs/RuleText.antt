@@ -1,7 +1,8 @@
 -- The text of a rule: one line `A | B live NAMES ask QUESTIONS => RESULT`.
 use Rattle.std.specs.Prelude.{ℕ, Bool, true, false, List, [], ◌∷◌, ◌++◌, map, codes}
 use Rattle.std.specs.Fmt.{decimal, signed_decimal}
-use Rattle.po_word.specs.Exprs.{Expr, Number, AtHole, UnOf, BinOf, Log2Of, Ask, Zero, One, Ones, Pow2, Within, Same, Related}
+use Rattle.po_word.specs.Exprs.{Expr, Number, AtHole, UnOf, BinOf, Log2Of, Ask, Zero, One, Ones, Pow2, Within, Same}
+use Rattle.po_word.specs.Exprs.{Related}
 use Rattle.po_term.specs.Tree.{Const, Leaf, Read, Unary, Binary}
 use Rattle.po_term.specs.Moves.{Ending, GoTo, IfCc, IfTwo, CallOf, Return, SetTo, CcTo, StoreTo, Ends}
 use Rattle.po_termtext.specs.TermText.{const_text, reg_text, un_text, bin_text, rel_text, joined}
@@ -40,13 +41,15 @@ hole_term_text (Const e) = hole_const_text e
 hole_term_text (Leaf p) = hole_place_text p
 hole_term_text (Read a) = codes "M[" ++ hole_term_text a ++ codes "]"
 hole_term_text (Unary o a) = un_text o ++ codes "(" ++ hole_term_text a ++ codes ")"
-hole_term_text (Binary o a b) = codes "(" ++ hole_term_text a ++ codes " " ++ bin_text o ++ codes " " ++ hole_term_text b ++ codes ")"
+hole_term_text (Binary o a b) = codes "(" ++ hole_term_text a ++ codes " " ++ bin_text o ++ codes " "
+    ++ hole_term_text b ++ codes ")"
 
 -- the label is @0
 abbrev pub hole_ending_text : Ending Expr HolePlace ℕ → List ℕ
 hole_ending_text (GoTo l) = codes "goto @0"
 hole_ending_text (IfCc r l) = codes "if cc " ++ rel_text r ++ codes " goto @0"
-hole_ending_text (IfTwo a b r l) = codes "if " ++ hole_term_text a ++ codes " ? " ++ hole_term_text b ++ codes " " ++ rel_text r ++ codes " goto @0"
+hole_ending_text (IfTwo a b r l) = codes "if " ++ hole_term_text a ++ codes " ? " ++ hole_term_text b ++ codes " "
+    ++ rel_text r ++ codes " goto @0"
 hole_ending_text (CallOf k n) = codes "call " ++ hole_symbol_text k ++ codes " " ++ decimal n
 hole_ending_text Return = codes "ret"
 
@@ -77,7 +80,8 @@ ask_text (Zero e) = codes "zero(" ++ expr_text e ++ codes ")"
 ask_text (One e) = codes "one(" ++ expr_text e ++ codes ")"
 ask_text (Ones e) = codes "ones(" ++ expr_text e ++ codes ")"
 ask_text (Pow2 e) = codes "pow2(" ++ expr_text e ++ codes ")"
-ask_text (Within e lo hi) = codes "in(" ++ expr_text e ++ codes "," ++ signed_decimal lo ++ codes "," ++ signed_decimal hi ++ codes ")"
+ask_text (Within e lo hi) = codes "in(" ++ expr_text e ++ codes "," ++ signed_decimal lo ++ codes ","
+    ++ signed_decimal hi ++ codes ")"
 ask_text (Same e f) = codes "same(" ++ expr_text e ++ codes "," ++ expr_text f ++ codes ")"
 ask_text (Related r e f) = rel_text r ++ codes "(" ++ expr_text e ++ codes "," ++ expr_text f ++ codes ")"
 
@@ -99,5 +103,6 @@ result_text (AsOne ms) = hole_list_text ms
 
 abbrev pub rule_text : PlainRule → List ℕ
 rule_text r =
-    hole_list_text r.shape.a ++ codes " | " ++ hole_list_text r.shape.b ++ codes " live " ++ names_text r.shape.live r.shape.cc
+    hole_list_text r.shape.a ++ codes " | " ++ hole_list_text r.shape.b ++ codes " live " ++ names_text r.shape.live
+    r.shape.cc
     ++ codes " ask " ++ path_text r.asked ++ codes " => " ++ result_text r.result

@@ -1,5 +1,6 @@
 -- What a code does, block by block, and when two runs can't be told apart.
-use Rattle.std.specs.Prelude.{ℕ, zero, suc, ◌≡◌, ◌==◌, ◌<◌, ◌^◌, nat_lt, if◌then◌else◌, List, [], ◌∷◌, ◌++◌, map, length, All, Option, Some, None, ⊤}
+use Rattle.std.specs.Prelude.{ℕ, zero, suc, ◌≡◌, ◌==◌, ◌<◌, ◌^◌, nat_lt, if◌then◌else◌, List, [], ◌∷◌, ◌++◌, map}
+use Rattle.std.specs.Prelude.{length, All, Option, Some, None, ⊤}
 use Rattle.po_term.specs.declared.term.Reg.{Reg as Register}
 use Rattle.po_term.specs.declared.term.Reg.TheVariants.{Fp, Rv}
 use Rattle.po_term.specs.declared.term.Sym.{Sym}
@@ -73,7 +74,11 @@ written (w ∷ ws) memory = written ws (λ a. if a == w.address then w.word else
 
 -- the state after a reply
 abbrev pub replied : Reply → State → State
-replied r s = record { place = λ p. if same_register p (InReg Rv) then r.word else s.place p; memory = written r.writes s.memory; cc = None }
+replied r s = record {
+  place = λ p. if same_register p (InReg Rv) then r.word else s.place p;
+  memory = written r.writes s.memory;
+  cc = None;
+}
 
 module _ (code : List PlainBlock) where
   -- the block of this number, where it is there
@@ -87,7 +92,8 @@ module _ (code : List PlainBlock) where
   -- a call is made, and takes the next reply
   abbrev pub answered : ℕ → Sym → List ℕ → State → List Call → List Reply → Option Run
   answered b f ws s calls [] = None
-  answered b f ws s calls (r ∷ rs) = stands_before (if_there (suc b)) (replied r s) (calls ++ record { name = f; words = ws; memory = s.memory } ∷ []) rs
+  answered b f ws s calls (r ∷ rs) = stands_before (if_there (suc b)) (replied r s)
+      (calls ++ record { name = f; words = ws; memory = s.memory } ∷ []) rs
 
   -- from the end of the block b
   abbrev pub leave : ℕ → State → Control → List Call → List Reply → Option Run
@@ -129,8 +135,8 @@ module _ (code : List PlainBlock) where
   LiveWhere (Before b) v = IsLiveAt code b v
   LiveWhere (Behind w) v = v ≡ Reg Fp
 
-  -- a run of the code, and one of another code for the same unit, in which each register has its place: they can't be told apart by
-  -- memory, by calls, by control, or by what is live
+  -- a run of the code, and one of another code for the same unit, in which each register has its place: they can't be
+  -- told apart by memory, by calls, by control, or by what is live
   pub record Same (place : Register → Register) (x y : Run) : Type 0 where
     -- the same next block, or the same word returned
     pub stop : x.at ≡ y.at

@@ -1,8 +1,10 @@
--- The scan of a code: an instruction of which nothing is live is dropped, and each other one is tried with the last one done.
+-- The scan of a code: an instruction of which nothing is live is dropped, and each other one is tried with the last
+-- one done.
 --
--- A pass goes through the blocks of a code with what is live after each instruction at its start. Passes follow each other up to and
--- including the first that drops and combines nothing.
-use Rattle.std.specs.Prelude.{ℕ, suc, ◌≡◌, ◌↔◌, ◌<◌, Bool, true, false, not, IsTrue, if◌then◌else◌, List, [], ◌∷◌, reverse, length, Option, Some, None}
+-- A pass goes through the blocks of a code with what is live after each instruction at its start. Passes follow each
+-- other up to and including the first that drops and combines nothing.
+use Rattle.std.specs.Prelude.{ℕ, suc, ◌≡◌, ◌↔◌, ◌<◌, Bool, true, false, not, IsTrue, if◌then◌else◌, List, [], ◌∷◌}
+use Rattle.std.specs.Prelude.{reverse, length, Option, Some, None}
 use Rattle.std.specs.List.{list_all}
 use Rattle.std.specs.BTreeSet.{insert_key}
 use Rattle.po_term.specs.declared.term.Reg.{Reg as Register}
@@ -36,8 +38,8 @@ is_dead_move live (Ends e) = false
 abbrev pub is_dead : (Var → Bool) → PlainInstr → Bool
 is_dead live x = list_all (is_dead_move live) x
 
--- where the scan of a block stands: what is done, the last instruction first; what is to come; and whether the pass has dropped or
--- combined anything
+-- where the scan of a block stands: what is done, the last instruction first; what is to come; and whether the pass
+-- has dropped or combined anything
 pub record Stand : Type 0 where
   pub done : List PlainInstr
   pub rest : List Ahead
@@ -47,7 +49,8 @@ pub record Stand : Type 0 where
 abbrev pub onward : List PlainInstr → List Ahead → Bool → Stand
 onward done [] changed = record { done = done; rest = []; changed = changed }
 onward [] (x ∷ xs) changed = if is_dead x.live x.instr then onward [] xs true else onward (x.instr ∷ []) xs changed
-onward (d ∷ ds) (x ∷ xs) changed = if is_dead x.live x.instr then onward (d ∷ ds) xs true else record { done = d ∷ ds; rest = x ∷ xs; changed = changed }
+onward (d ∷ ds) (x ∷ xs) changed = if is_dead x.live x.instr then onward (d ∷ ds) xs true
+    else record { done = d ∷ ds; rest = x ∷ xs; changed = changed }
 
 -- these registers, and those that an instruction sets and that are live, in their order
 abbrev pub put_live : (Var → Bool) → PlainInstr → List Register → List Register
@@ -64,7 +67,8 @@ abbrev pub ready : List PlainInstr → List Ahead → Option PlainPair
 ready (d ∷ ds) (x ∷ xs) = Some (pair_with d x)
 ready done rest = None
 
--- on from that pair: both stay; both go; or one instruction is next, and live after it is what was live after the second
+-- on from that pair: both stay; both go; or one instruction is next, and live after it is what was live after the
+-- second
 abbrev pub settled : Answer → List PlainInstr → List Ahead → Bool → Stand
 settled Kept (d ∷ ds) (x ∷ xs) changed = onward (x.instr ∷ d ∷ ds) xs changed
 settled Gone (d ∷ ds) (x ∷ xs) changed = onward ds xs true
@@ -86,9 +90,11 @@ instrs_ahead live i (x ∷ xs) = record { instr = x; live = live i } ∷ instrs_
 -- blocks from the b-th of a code on
 abbrev pub blocks_ahead : (ℕ → ℕ → Var → Bool) → ℕ → List PlainBlock → List BlockAhead
 blocks_ahead live b [] = []
-blocks_ahead live b (x ∷ xs) = record { label = x.label; instrs = instrs_ahead (live b) 0 x.instrs } ∷ blocks_ahead live (suc b) xs
+blocks_ahead live b (x ∷ xs) = record { label = x.label; instrs = instrs_ahead (live b) 0 x.instrs } ∷ blocks_ahead
+    live (suc b) xs
 
--- the block that is scanned: its label and where its scan stands; the blocks of the pass before it, the last first; and those to come
+-- the block that is scanned: its label and where its scan stands; the blocks of the pass before it, the last first;
+-- and those to come
 pub record InBlock : Type 0 where
   pub label : Option Label
   pub stand : Stand
@@ -103,7 +109,12 @@ pub data Scan : Type 0 where
 -- into the first of these blocks; to the finish where there is none
 abbrev pub enter : List PlainBlock → List BlockAhead → Bool → Scan
 enter passed [] changed = Finished (reverse passed)
-enter passed (b ∷ bs) changed = Within (record { label = b.label; stand = onward [] b.instrs changed; passed = passed; coming = bs })
+enter passed (b ∷ bs) changed = Within (record {
+  label = b.label;
+  stand = onward [] b.instrs changed;
+  passed = passed;
+  coming = bs;
+})
 
 -- live tells what is live after each instruction of a code
 abbrev pub Tells : List PlainBlock → (ℕ → ℕ → Var → Bool) → Type 0
@@ -136,7 +147,13 @@ pair_ready (Finished code) = None
 
 -- on from that pair, by what becomes of it
 abbrev pub after_try : Answer → Scan → Scan
-after_try o (Within s) = Within (record { label = s.label; stand = settled o s.stand.done s.stand.rest s.stand.changed; passed = s.passed; coming = s.coming })
+after_try o (Within s) = Within (record {
+  label = s.label;
+  stand = settled o s.stand.done s.stand.rest
+      s.stand.changed;
+  passed = s.passed;
+  coming = s.coming;
+})
 after_try o (Finished code) = Finished code
 
 -- the scan is at the end of a block: nothing of it is to come
@@ -189,12 +206,14 @@ pub record StandsAt (answer : Answers) (code : List PlainBlock) (n k : ℕ) (s :
 
 -- what all passes over a code make of it by these answers, and the pairs that they try
 abbrev pub IsScanned : Answers → List PlainBlock → List PlainPair → List PlainBlock → Type 0
-IsScanned answer code pairs scanned = (steps : List ScanStep) × StandsAfter answer code steps (Finished scanned) × (pairs ≡ tried steps)
+IsScanned answer code pairs scanned = (steps : List ScanStep) × StandsAfter answer code steps (Finished scanned)
+    × (pairs ≡ tried steps)
 
 -- by slow combination
 abbrev pub IsSlowed : Machine → List PlainBlock → List PlainPair → List PlainBlock → Type 0
 IsSlowed m code pairs slowed = IsScanned (combination m) code pairs slowed
 
--- answers by which a scan keeps what a code does: a well-formed pair stays, or this becomes of it that slow combination makes of it
+-- answers by which a scan keeps what a code does: a well-formed pair stays, or this becomes of it that slow
+-- combination makes of it
 abbrev pub AreSafe : Machine → Answers → Type 0
 AreSafe m answer = (p : PlainPair) → WellFormedPair p → (answer p ≡ Kept) ⊎ (answer p ≡ combination m p)

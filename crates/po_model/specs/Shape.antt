@@ -1,9 +1,10 @@
 -- The shape of a pair, and what stands at its holes.
 --
--- The walk of a pair goes through the first instruction and then the second, transfer by transfer: the register that is set and then
--- its term, an address and then its value, the left and then the right of a comparison. In that order different virtual registers get
--- the holes %0, %1, .., different symbols &0, &1, .., and each constant one of its own, #0, #1, .., equal constants too. The label is
--- @0. All else stays: other registers, operators, relations, numbers of arguments.
+-- The walk of a pair goes through the first instruction and then the second, transfer by transfer: the register that
+-- is set and then its term, an address and then its value, the left and then the right of a comparison. In that order
+-- different virtual registers get the holes %0, %1, .., different symbols &0, &1, .., and each constant one of its
+-- own, #0, #1, .., equal constants too. The label is @0. All else stays: other registers, operators, relations,
+-- numbers of arguments.
 use Rattle.std.specs.Prelude.{ℕ, Bool, ◌+◌, if◌then◌else◌, List, [], ◌∷◌, ◌++◌, map, filter, Some, None}
 use Rattle.std.specs.List.{list_any, position_or_len}
 use Rattle.po_word.specs.Exprs.{Expr, AtHole}

@@ -1,12 +1,14 @@
 -- A unit's code as plain data, and what every such code has.
-use Rattle.std.specs.Prelude.{ℕ, ◌<◌, ◌^◌, ◌≡◌, ◌≢◌, true, List, [], ◌∷◌, ◌++◌, length, All, AllPairs, Contains, Option, Some, None, ⊤}
+use Rattle.std.specs.Prelude.{ℕ, ◌<◌, ◌^◌, ◌≡◌, ◌≢◌, true, List, [], ◌∷◌, ◌++◌, length, All, AllPairs, Contains}
+use Rattle.std.specs.Prelude.{Option, Some, None, ⊤}
 use Rattle.std.specs.List.{flat_map}
 use Rattle.po_term.specs.declared.term.Reg.TheVariants.{Virt}
 use Rattle.po_term.specs.declared.term.Sym.{Sym}
 use Rattle.po_term.specs.declared.term.Label.{Label}
 use Rattle.po_term.specs.Tree.{EachLeaf}
 use Rattle.po_term.specs.Terms.{Place, InReg, AtSym}
-use Rattle.po_term.specs.Moves.{Ending, GoTo, IfCc, IfTwo, CallOf, Return, SetTo, CcTo, StoreTo, Ends, PlainMove, PlainInstr}
+use Rattle.po_term.specs.Moves.{Ending, GoTo, IfCc, IfTwo, CallOf, Return, SetTo, CcTo, StoreTo, Ends, PlainMove}
+use Rattle.po_term.specs.Moves.{PlainInstr}
 use Rattle.po_term.specs.Form.{WellFormed}
 use Rattle.po_model.specs.declared.code.UnitCode.{UnitCode}
 use Rattle.po_model.specs.declared.var.Var.TheVariants.{Reg}
@@ -39,7 +41,8 @@ all_written is = flat_map written is
 -- the instructions behind these ones read the virtual registers that these set, and no others
 abbrev pub ReadsBehind : List ℕ → List PlainInstr → Type 0
 ReadsBehind set [] = ⊤
-ReadsBehind set (i ∷ is) = ((v : ℕ) → reads i (Reg (Virt v)) ≡ true → Contains set v) × ReadsBehind (set ++ written i) is
+ReadsBehind set (i ∷ is) = ((v : ℕ) → reads i (Reg (Virt v)) ≡ true → Contains set v) × ReadsBehind (set ++ written i)
+    is
 
 -- each virtual register is set at most once, and read only by later instructions of the block that sets it
 pub record IsStraight (code : List PlainBlock) : Type 0 where
@@ -76,7 +79,8 @@ pub record IsNamedBlock (labels syms : ℕ) (b : PlainBlock) : Type 0 where
 abbrev pub IsNamed : PlainUnit → Type 0
 IsNamed u = All (IsNamedBlock (length u.labels) (length u.syms)) u.code
 
--- a code whose instructions are well formed, and in which a control transfer stands only in the last instruction of a block
+-- a code whose instructions are well formed, and in which a control transfer stands only in the last instruction of a
+-- block
 pub record IsFormedCode (code : List PlainBlock) : Type 0 where
   pub ends_last : IsCode code
   pub formed : All (λ b. All WellFormed b.instrs) code

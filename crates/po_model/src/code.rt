@@ -3,8 +3,8 @@
 use po_name::Name;
 use po_term::{Instr, Label};
 
-/// A block: the label that names it, where it has one, and its instructions. A control transfer stands only in the last one
-/// (docs/LANGUAGE.md, "Naive code").
+/// A block: the label that names it, where it has one, and its instructions. A control transfer stands only in the
+/// last one (docs/LANGUAGE.md, "Naive code").
 #[derive(Drop)]
 pub struct Block {
     pub label: Option<Label>,
@@ -17,8 +17,8 @@ pub struct Code {
     pub blocks: Vec<Block>,
 }
 
-/// A unit's code (docs/LANGUAGE.md, "Naive code"), with the names of its labels (in the order of `lab`) and of its symbols (by first
-/// occurrence).
+/// A unit's code (docs/LANGUAGE.md, "Naive code"), with the names of its labels (in the order of `lab`) and of its
+/// symbols (by first occurrence).
 #[derive(Drop)]
 pub struct UnitCode {
     pub name: Name,

@@ -10,8 +10,8 @@ pub struct Live {
     pub cc: bool,
 }
 
-/// Two instructions, one after the other, and which of the registers that they set, and whether `cc`, is live after the second
-/// (docs/OPTIMISER.md, "Combination").
+/// Two instructions, one after the other, and which of the registers that they set, and whether `cc`, is live after
+/// the second (docs/OPTIMISER.md, "Combination").
 #[derive(Drop)]
 pub struct Pair {
     pub a: Instr,

@@ -4,8 +4,8 @@ ghost use Rattle.std.specs.Prelude.{◌≡◌, ◌↔◌, IsTrue};
 use crate::{Entry, Machine, PatCond, PatTerm, PatTransfer, Piece};
 use po_name::Name;
 
-/// Whether two machines are the same by their content: names, registers and entries, in order (docs/DESCRIPTION.md). It takes no
-/// memory, and recurses as deep as the terms of patterns are.
+/// Whether two machines are the same by their content: names, registers and entries, in order (docs/DESCRIPTION.md).
+/// It takes no memory, and recurses as deep as the terms of patterns are.
 pub fn same_machine(m: &Machine, n: &Machine) -> bool
     ensures { IsTrue result ↔ (m.now ≡ n.now) }
 {
@@ -13,7 +13,8 @@ pub fn same_machine(m: &Machine, n: &Machine) -> bool
 }
 
 fn same_names(m: &Machine, n: &Machine) -> bool
-    ensures { IsTrue result ↔ ((m.now.name ≡ n.now.name) × (m.now.frame ≡ n.now.frame) × (m.now.result ≡ n.now.result) × (m.now.args ≡ n.now.args) × (m.now.regs ≡ n.now.regs)) }
+    ensures { IsTrue result ↔ ((m.now.name ≡ n.now.name) × (m.now.frame ≡ n.now.frame) × (m.now.result ≡ n.now.result)
+        × (m.now.args ≡ n.now.args) × (m.now.regs ≡ n.now.regs)) }
 {
     if !m.name.same(&n.name) {
         return false;

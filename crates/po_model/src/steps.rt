@@ -4,7 +4,8 @@ ghost use Rattle.std.specs.Prelude.{◌≡◌, ◌<◌, ◌+◌};
 use std::marker::Model;
 use std::sync::ledger::{Blank, Book, Ledger, Share};
 
-/// How many steps were taken since it was made. Contracts see a `Steps` as that number. It takes no bytes, and a step takes no time.
+/// How many steps were taken since it was made. Contracts see a `Steps` as that number. It takes no bytes, and a step
+/// takes no time.
 #[derive(Drop)]
 pub struct Steps<L: Ledger> {
     all: Book<L>,
@@ -22,8 +23,8 @@ impl<L: Ledger> Model for Steps<L> {
 }
 
 impl<L: Ledger> Steps<L> {
-    /// No step, over the new ledger L, whose name and parts `ledger` has. `parts` says into how many parts the shares of the ledger are
-    /// cut, and is above 0.
+    /// No step, over the new ledger L, whose name and parts `ledger` has. `parts` says into how many parts the shares
+    /// of the ledger are cut, and is above 0.
     pub fn new(ledger: Blank) -> Steps<L>
         requires name { ledger.name ≡ L.name }
         requires parts { ledger.parts ≡ L.parts }

@@ -29,8 +29,8 @@ impl Model for Name {
 }
 
 impl Name {
-    /// The name of these bytes, or None exactly where they are no name (docs/LANGUAGE.md, "Names"). It fails only where memory is
-    /// refused.
+    /// The name of these bytes, or None exactly where they are no name (docs/LANGUAGE.md, "Names"). It fails only
+    /// where memory is refused.
     pub fn new(alloc: Global, bytes: &[u8]) -> Result<Option<Name>, OutOfMemory>
         ensures { IfOk result (λ found. found ≡ (if is_name bytes.now then Some bytes.now else None)) }
     {

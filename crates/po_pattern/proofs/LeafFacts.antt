@@ -32,13 +32,17 @@ digit_small byte (b ∷ []) = tt
 digit_small byte (b ∷ d ∷ ds) = some_if (λ k. k < 10) (b == byte) (cond (is_digit d) (Some (d - 48)) None) None
     (λ e. some_if (λ k. k < 10) (is_digit d) (Some (d - 48)) None (small d) tt) tt
 
-operand_with_digit : (kind : OperandKind) (r : Rest) (seen : Operands) (k : Option ℕ) → IfSome k (λ k. k < 10) → IfOk (parts.operand_with kind r seen k) (λ p. p.value < 10)
+operand_with_digit : (kind : OperandKind) (r : Rest) (seen : Operands) (k : Option ℕ) → IfSome k (λ k. k < 10)
+    → IfOk (parts.operand_with kind r seen k) (λ p. p.value < 10)
 operand_with_digit kind r seen None h = tt
-operand_with_digit kind r seen (Some k) h = ok_if (λ (p : Read ℕ). p.value < 10) (may_be kind (kind_of seen k)) _ _ (λ e. h) tt
+operand_with_digit kind r seen (Some k) h = ok_if (λ (p : Read ℕ). p.value < 10) (may_be kind (kind_of seen k)) _ _
+    (λ e. h) tt
 
-pub operand_digit : (kind : OperandKind) (r : Rest) (seen : Operands) → IfOk (parts.operand kind r seen) (λ p. p.value < 10)
+pub operand_digit : (kind : OperandKind) (r : Rest) (seen : Operands) → IfOk (parts.operand kind r seen)
+    (λ p. p.value < 10)
 unfolding parts.operand
-operand_digit kind r seen = operand_with_digit kind r seen (parts.digit_behind (parts.mark_of kind) r.bytes) (digit_small (parts.mark_of kind) r.bytes)
+operand_digit kind r seen = operand_with_digit kind r seen (parts.digit_behind (parts.mark_of kind) r.bytes)
+    (digit_small (parts.mark_of kind) r.bytes)
 
 -- a number of 32 bits
 abbrev pub IsNumber : ℤ → Type 0
@@ -62,7 +66,9 @@ number_with_is r n (b ∷ bs) = signed_is _
 
 pub number_is : (r : Rest) (seen : Operands) → IfOk (parts.number r seen) (λ p. IsNumber p.value)
 unfolding parts.number parts.number_at
-number_is r seen = ok_bind IsNumber (λ (p : Read ℤ). IsNumber p.value) (parts.number_at r (parts.number_length r.bytes)) _ (number_with_is r (parts.number_length r.bytes) r.bytes) (λ x h. h)
+number_is r seen = ok_bind IsNumber (λ (p : Read ℤ). IsNumber p.value)
+    (parts.number_at r (parts.number_length r.bytes)) _ (number_with_is r (parts.number_length r.bytes) r.bytes)
+    (λ x h. h)
 
 pub word_fits : (z : ℤ) → IsNumber z → word_of z < 2 ^ 32
 word_fits z h = fits z (le_from (negsuc 2147483647) z h.0) (le_from z (pos 2147483647) h.1)
@@ -80,17 +86,22 @@ Ranged p = HasRange p.value
 
 range_is : (r : Rest) (seen : Operands) → IfOk (parts.range r seen) Ranged
 unfolding parts.range
-range_is r seen = ok_then Ranged _ _ (λ opened. ok_bind (λ (p : Read ℤ). IsNumber p.value) Ranged _ _ (number_is (skip_blanks opened) seen)
-    (λ low first. ok_then Ranged _ _ (λ comma. ok_bind (λ (p : Read ℤ). IsNumber p.value) Ranged _ _ (number_is (skip_blanks comma) seen)
-    (λ high second. ok_bind (λ (x : ⊤). IsTrue (int_le low.value high.value)) Ranged _ _ (order_is r.column low.value high.value)
+range_is r seen = ok_then Ranged _ _ (λ opened. ok_bind (λ (p : Read ℤ). IsNumber p.value) Ranged _ _
+    (number_is (skip_blanks opened) seen)
+    (λ low first. ok_then Ranged _ _ (λ comma. ok_bind (λ (p : Read ℤ). IsNumber p.value) Ranged _ _
+    (number_is (skip_blanks comma) seen)
+    (λ high second. ok_bind (λ (x : ⊤). IsTrue (int_le low.value high.value)) Ranged _ _
+    (order_is r.column low.value high.value)
     (λ ordered order. let bounds : Option Bounds = Some (record { lo = low.value; hi = high.value }) in
     let fine : HasRange bounds = record { from = first.0; order = order; to = second.1 } in
     ok_marked HasRange bounds seen (mark 93 (skip_blanks high.rest)) fine)))))
 
-pub range_behind_is : (column : ℕ) (new : Bool) (r : Rest) (seen : Operands) → IfOk (parts.range_behind column new r seen) Ranged
+pub range_behind_is : (column : ℕ) (new : Bool) (r : Rest) (seen : Operands)
+    → IfOk (parts.range_behind column new r seen) Ranged
 unfolding parts.range_behind
 range_behind_is column new r seen =
-    ok_if Ranged (begins 91 (skip_blanks r).bytes) _ _ (λ e. ok_if Ranged new _ _ (λ f. range_is (skip_blanks r) seen) tt) tt
+    ok_if Ranged (begins 91 (skip_blanks r).bytes) _ _ (λ e. ok_if Ranged new _ _ (λ f. range_is (skip_blanks r) seen)
+    tt) tt
 
 -- registers
 fixed_is : (name : List ℕ) → IfSome (parts.fixed_of name) IsFixed
@@ -101,7 +112,8 @@ fixed_is name = some_if IsFixed (same name (codes "fp")) _ _ (λ e. tt)
     (some_if IsFixed (same name (codes "arg2")) _ _ (λ e. omega arith)
     (some_if IsFixed (same name (codes "arg3")) _ _ (λ e. omega arith) tt)))))
 
-fixed_with_is : (r : Rest) (seen : Operands) (found : Option Reg) → IfSome found IsFixed → IfOk (parts.fixed_with r seen found) (λ p. IsPatReg p.value)
+fixed_with_is : (r : Rest) (seen : Operands) (found : Option Reg) → IfSome found IsFixed
+    → IfOk (parts.fixed_with r seen found) (λ p. IsPatReg p.value)
 fixed_with_is r seen None h = tt
 fixed_with_is r seen (Some register) h = h
 
@@ -111,8 +123,10 @@ fixed_register_is r seen = fixed_with_is r seen (parts.fixed_of (parts.name_here
 
 pub any_register_is : (r : Rest) (seen : Operands) → IfOk (parts.any_register r seen) (λ p. IsPatReg p.value)
 unfolding parts.any_register
-any_register_is r seen = ok_bind (λ (p : Read ℕ). p.value < 10) (λ (p : Read PatReg). IsPatReg p.value) _ _ (operand_digit _ r seen) (λ x h. h)
+any_register_is r seen = ok_bind (λ (p : Read ℕ). p.value < 10) (λ (p : Read PatReg). IsPatReg p.value) _ _
+    (operand_digit _ r seen) (λ x h. h)
 
 pub register_is : (r : Rest) (seen : Operands) → IfOk (parts.register r seen) (λ p. IsPatReg p.value)
 unfolding parts.register
-register_is r seen = ok_if (λ (p : Read PatReg). IsPatReg p.value) (begins 37 r.bytes) _ _ (λ e. any_register_is r seen) (fixed_register_is r seen)
+register_is r seen = ok_if (λ (p : Read PatReg). IsPatReg p.value) (begins 37 r.bytes) _ _
+    (λ e. any_register_is r seen) (fixed_register_is r seen)

@@ -29,7 +29,8 @@ fails_first (suc n) s (error.Fault x) h f = steps_bound n s ∙ ap (λ r. r >>= 
 fails_first (suc n) s error.Memory h f = tt
 
 step_whole : (frames : List Frame) (turn : Turn) (r : Rest) (seen : _) → whole_with frames turn ≡ true
-    → step (record { frames = frames; turn = record { value = turn; rest = r; seen = seen } }) ≡ Ok (record { frames = frames; turn = record { value = turn; rest = r; seen = seen } })
+    → step (record { frames = frames; turn = record { value = turn; rest = r; seen = seen } })
+    ≡ Ok (record { frames = frames; turn = record { value = turn; rest = r; seen = seen } })
 unfolding step
 step_whole [] (Whole part) r seen e = refl
 step_whole (f ∷ fs) (Whole part) r seen e = cc
@@ -38,4 +39,5 @@ step_whole (f ∷ fs) (Opens frame) r seen e = cc
 
 pub steps_whole : (n : ℕ) (s : Reading) → is_whole s ≡ true → steps n s ≡ Ok s
 steps_whole zero s e = steps_none s
-steps_whole (suc n) s e = steps_bound n s ∙ ap (λ r. r >>= (λ u. steps n u)) (step_whole s.frames s.turn.value s.turn.rest s.turn.seen e) ∙ steps_whole n s e
+steps_whole (suc n) s e = steps_bound n s ∙ ap (λ r. r >>= (λ u. steps n u))
+    (step_whole s.frames s.turn.value s.turn.rest s.turn.seen e) ∙ steps_whole n s e

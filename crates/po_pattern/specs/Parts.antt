@@ -1,6 +1,7 @@
 -- The parts of a term that have no parts of their own: operands, numbers, registers. Blanks before a part are passed
 -- over by what reads it; none stands inside an operand with its digit, a number or a name.
-use Rattle.std.specs.Prelude.{ℕ, ◌+◌, ◌-◌, ◌==◌, Bool, List, [], ◌∷◌, take, codes, ℤ, int_le, if◌then◌else◌, Result, Ok, Err, Option, Some, None, ⊤}
+use Rattle.std.specs.Prelude.{ℕ, ◌+◌, ◌-◌, ◌==◌, Bool, List, [], ◌∷◌, take, codes, ℤ, int_le, if◌then◌else◌, Result}
+use Rattle.std.specs.Prelude.{Ok, Err, Option, Some, None, ⊤}
 use Rattle.std.specs.List.{prefix_len}
 use Rattle.po_word.specs.Words.{word_of}
 use Rattle.po_text.specs.declared.fault.Kind.TheVariants as fault_kind
@@ -127,7 +128,8 @@ fixed_of name = if same name (codes "fp") then Some Fp
 -- the register that was found under the name here
 abbrev pub fixed_with : Rest → Operands → Option Reg → Result (Read PatReg) LineFault
 fixed_with r seen None = wrong r
-fixed_with r seen (Some register) = Ok (record { value = Fixed register; rest = behind (prefix_len is_name_byte r.bytes) r; seen = seen })
+fixed_with r seen (Some register) =
+    Ok (record { value = Fixed register; rest = behind (prefix_len is_name_byte r.bytes) r; seen = seen })
 
 -- `fp`, `rv`, `arg0` to `arg3`
 unfoldable pub fixed_register : Rest → Operands → Result (Read PatReg) LineFault

@@ -1,6 +1,7 @@
--- Whole terms. A term is read part by part: what is open stands on a stack of frames, the innermost first. A part of more
--- than 64 nodes or deeper than 16 is read for its form alone: none stands in place of its tree.
-use Rattle.std.specs.Prelude.{ℕ, zero, suc, ◌+◌, ◌==◌, ◌&&◌, ◌||◌, nat_le, nat_eq, max, Bool, true, false, List, [], ◌∷◌, length, codes, if◌then◌else◌, Result, Ok, Option, Some, None}
+-- Whole terms. A term is read part by part: what is open stands on a stack of frames, the innermost first. A part of
+-- more than 64 nodes or deeper than 16 is read for its form alone: none stands in place of its tree.
+use Rattle.std.specs.Prelude.{ℕ, zero, suc, ◌+◌, ◌==◌, ◌&&◌, ◌||◌, nat_le, nat_eq, max, Bool, true, false, List, []}
+use Rattle.std.specs.Prelude.{◌∷◌, length, codes, if◌then◌else◌, Result, Ok, Option, Some, None}
 use Rattle.std.specs.List.{prefix_len, starts_with}
 use Rattle.std.specs.Option.{option_map}
 use Rattle.po_word.specs.declared.operator.Un.{Un}
@@ -25,7 +26,8 @@ use Rattle.po_pattern.specs.Parts.{any_register, constant, symbol_address, numer
 
 -- a part with this number of nodes and this depth, if it is within the limits
 abbrev pub kept : PatTerm → ℕ → ℕ → Option Part
-kept term size depth = if nat_le size 64 && nat_le depth 16 then Some (record { term = term; size = size; depth = depth }) else None
+kept term size depth = if nat_le size 64 && nat_le depth 16
+    then Some (record { term = term; size = size; depth = depth }) else None
 
 abbrev pub memory_part : Option Part → Option Part
 memory_part None = None
@@ -127,7 +129,11 @@ operator_length _ = 1
 -- the operator behind the left operand
 abbrev pub operator_with : Option Part → Rest → Operands → Option Bin → Result (Read Turn) LineFault
 operator_with left r seen None = wrong r
-operator_with left r seen (Some op) = Ok (record { value = Opens (frame.Right op left); rest = behind (operator_length op) r; seen = seen })
+operator_with left r seen (Some op) = Ok (record {
+  value = Opens (frame.Right op left);
+  rest = behind (operator_length op) r;
+  seen = seen;
+})
 
 unfoldable pub operator : Option Part → Rest → Operands → Result (Read Turn) LineFault
 operator left r seen = operator_with left r seen (operator_of r.bytes)
@@ -167,7 +173,8 @@ abbrev pub step_with : List Frame → Turn → Rest → Operands → Result Read
 step_with frames (Opens frame) r seen = do
   turn ← wanted (skip_blanks r) seen
   Ok (record { frames = frame ∷ frames; turn = turn })
-step_with [] (Whole part) r seen = Ok (record { frames = []; turn = record { value = Whole part; rest = r; seen = seen } })
+step_with [] (Whole part) r seen =
+    Ok (record { frames = []; turn = record { value = Whole part; rest = r; seen = seen } })
 step_with (frame ∷ frames) (Whole part) r seen = do
   turn ← behind_whole frame part (skip_blanks r) seen
   Ok (record { frames = frames; turn = turn })

@@ -4,8 +4,8 @@ ghost use Rattle.std.specs.Prelude.{◌≤◌, ◌+◌, length};
 
 use crate::operands::Operands;
 
-/// What is left of a line from a place on, and the column of its first byte, counted in bytes from 1. At the line's end
-/// no byte is left, and the column is the one behind the last byte. A line has at most 4,096 bytes
+/// What is left of a line from a place on, and the column of its first byte, counted in bytes from 1. At the line's
+/// end no byte is left, and the column is the one behind the last byte. A line has at most 4,096 bytes
 /// (docs/LANGUAGE.md, "Lines").
 #[derive(Clone, Copy, Debug)]
 pub struct Cursor<'a> {

@@ -20,7 +20,8 @@ pub fn with_frame(frames: Items<Frame>, frame: Frame) -> Result<Items<Frame>, Al
 /// Takes the innermost frame.
 #[tactic(auto, using(crate::proofs::InnermostFirst::reverse_next))]
 pub fn pop_frame(frames: &mut Items<Frame>) -> Option<Frame>
-    ensures { MatchOption result ((reverse frames.old ≡ []) × (reverse frames.new ≡ [])) (λ frame. reverse frames.old ≡ frame ∷ reverse frames.new) }
+    ensures { MatchOption result ((reverse frames.old ≡ []) × (reverse frames.new ≡ []))
+        (λ frame. reverse frames.old ≡ frame ∷ reverse frames.new) }
 {
     frames.pop()
 }

@@ -17,8 +17,8 @@ use po_model::{PatReg, PatTerm};
 use po_term::Reg;
 use po_text::Kind;
 
-/// A register: `%k`, or one of `fp`, `rv`, `arg0` to `arg3` (docs/DESCRIPTION.md, "Entries"). Anything else is Word at its
-/// first byte; a digit of another kind is ListForm there.
+/// A register: `%k`, or one of `fp`, `rv`, `arg0` to `arg3` (docs/DESCRIPTION.md, "Entries"). Anything else is Word
+/// at its first byte; a digit of another kind is ListForm there.
 pub fn register<'a>(cursor: Cursor<'a>, seen: Operands) -> Result<Parsed<'a, PatReg>, LineError>
     ensures gives { Gives read_of result (parts.register (rest_of cursor.entry) seen) }
     ensures formed { IfOk result (λ p. IsPatReg p.value) }
@@ -86,8 +86,8 @@ fn fixed_of(name: &[u8]) -> Option<Reg>
     }
 }
 
-/// A symbol `&k`, by its digit, from 0 to 9 (docs/DESCRIPTION.md, "Entries"). Anything else is Word at its first byte; a
-/// digit of another kind is ListForm there.
+/// A symbol `&k`, by its digit, from 0 to 9 (docs/DESCRIPTION.md, "Entries"). Anything else is Word at its first
+/// byte; a digit of another kind is ListForm there.
 #[tactic(auto, unfolding(crate::specs::Parts::symbol))]
 pub fn symbol<'a>(cursor: Cursor<'a>, seen: Operands) -> Result<Parsed<'a, u8>, LineError>
     ensures gives { Gives read_of result (parts.symbol (rest_of cursor.entry) seen) }
@@ -96,8 +96,8 @@ pub fn symbol<'a>(cursor: Cursor<'a>, seen: Operands) -> Result<Parsed<'a, u8>, 
     operand(OperandKind::Symbol, cursor, seen)
 }
 
-/// A label `@k`, by its digit, from 0 to 9 (docs/DESCRIPTION.md, "Entries"). Anything else is Word at its first byte; a
-/// digit of another kind is ListForm there.
+/// A label `@k`, by its digit, from 0 to 9 (docs/DESCRIPTION.md, "Entries"). Anything else is Word at its first byte;
+/// a digit of another kind is ListForm there.
 #[tactic(auto, unfolding(crate::specs::Parts::label))]
 pub fn label<'a>(cursor: Cursor<'a>, seen: Operands) -> Result<Parsed<'a, u8>, LineError>
     ensures gives { Gives read_of result (parts.label (rest_of cursor.entry) seen) }

@@ -46,9 +46,9 @@ fn number_at(cursor: Cursor, count: usize) -> Result<i32, LineError>
 {
     match cursor.bytes {
         [] => Err(fault_at(cursor.column, Kind::Word)),
-        _ => signed_number(&Word {
+        _ => Ok(signed_number(&Word {
             column: cursor.column,
             bytes: &cursor.bytes[..count],
-        }),
+        })?),
     }
 }

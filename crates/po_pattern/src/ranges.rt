@@ -43,8 +43,8 @@ fn digit_behind(byte: u8, bytes: &[u8]) -> Option<u8>
     }
 }
 
-/// The digit of an operand of this kind. A mark without its digit is Word, and a digit that has another kind already is
-/// ListForm, each at the mark.
+/// The digit of an operand of this kind. A mark without its digit is Word, and a digit that has another kind already
+/// is ListForm, each at the mark.
 #[tactic(auto, unfolding(crate::specs::Parts::operand))]
 pub fn operand<'a>(
     kind: OperandKind,

@@ -23,9 +23,9 @@ use std::alloc::Global;
 /// A whole term, blanks in front of it passed over (docs/DESCRIPTION.md, "Entries"). A term of more than 64 nodes or
 /// deeper than 16 is read for its form alone: its value is None. What stands behind the term isn't looked at.
 ///
-/// The first fault from left to right is Word at a part that may not stand there, or at the line's end; Number at a number
-/// outside its bounds; Range at the `[` of a range whose lower end is greater than its upper one; ListForm at an operand
-/// whose digit has another kind, or that has a range though it was seen before.
+/// The first fault from left to right is Word at a part that may not stand there, or at the line's end; Number at a
+/// number outside its bounds; Range at the `[` of a range whose lower end is greater than its upper one; ListForm at
+/// an operand whose digit has another kind, or that has a range though it was seen before.
 pub fn term<'a>(
     alloc: Global,
     cursor: Cursor<'a>,

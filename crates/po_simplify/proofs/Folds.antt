@@ -76,7 +76,8 @@ add_neg x c = omega arith
 pub sub_same : (x : ℕ) → x < 2 ^ 32 → 0 ≡ (x + (2 ^ 32 - x)) % 2 ^ 32
 sub_same x h = omega arith
 
-pub add_across : (x y c d : ℕ) → ((x + y) % 2 ^ 32 + (c + d) % 2 ^ 32) % 2 ^ 32 ≡ ((x + c) % 2 ^ 32 + (y + d) % 2 ^ 32) % 2 ^ 32
+pub add_across : (x y c d : ℕ) → ((x + y) % 2 ^ 32 + (c + d) % 2 ^ 32) % 2 ^ 32
+    ≡ ((x + c) % 2 ^ 32 + (y + d) % 2 ^ 32) % 2 ^ 32
 add_across x y c d = omega arith
 
 pub add_left : (x y c : ℕ) → ((x + y) % 2 ^ 32 + c) % 2 ^ 32 ≡ ((x + c) % 2 ^ 32 + y) % 2 ^ 32
@@ -86,9 +87,11 @@ pub add_right : (x y c : ℕ) → ((x + y) % 2 ^ 32 + c) % 2 ^ 32 ≡ (x + (y + 
 add_right x y c = omega arith
 
 pub mul_twice : (x d c : ℕ) → (x * (d * c % 2 ^ 32)) % 2 ^ 32 ≡ ((x * d) % 2 ^ 32 * c) % 2 ^ 32
-mul_twice x d c = mul-mod_second x (d * c) (2 ^ 32) ∙ ap (λ n. n % 2 ^ 32) (sym (mul_assoc x d c)) ∙ sym (mul-mod_first (x * d) c (2 ^ 32))
+mul_twice x d c = mul-mod_second x (d * c) (2 ^ 32) ∙ ap (λ n. n % 2 ^ 32) (sym (mul_assoc x d c))
+    ∙ sym (mul-mod_first (x * d) c (2 ^ 32))
 
-one_bit_at : (c j z : ℕ) → count_ones c ≡ 1 → z + suc j ≡ 32 → 2 ^ j ≤ c → c < 2 ^ suc j → (2 ^ (31 - z) ≡ c) × (31 - z < 32)
+one_bit_at : (c j z : ℕ) → count_ones c ≡ 1 → z + suc j ≡ 32 → 2 ^ j ≤ c → c < 2 ^ suc j → (2 ^ (31 - z) ≡ c)
+    × (31 - z < 32)
 one_bit_at c j z n sums low high =
     let r : ℕ = c - 2 ^ j in
     let twice : 2 ^ suc j ≡ 2 ^ j * 2 = pow-suc 2 j in
@@ -113,14 +116,16 @@ one_bit c h e =
     one_bit_at c t.0 (count_leading_zeros 32 c) n t.1 t.2 t.3
 
 -- a shift by the place of the one bit is the product
-pub shift_by_bit : (x c : ℕ) → c < 2 ^ 32 → is_power_of_two c ≡ true → (x * 2 ^ (log2 c % 32)) % 2 ^ 32 ≡ (x * c) % 2 ^ 32
+pub shift_by_bit : (x c : ℕ) → c < 2 ^ 32 → is_power_of_two c ≡ true → (x * 2 ^ (log2 c % 32)) % 2 ^ 32 ≡ (x * c) % 2
+    ^ 32
 shift_by_bit x c h e =
     let t = one_bit c h e in
     let m : log2 c % 32 ≡ log2 c = mod-eq_of_lt t.1 in
     rw (m, t.0)
 
 pub or_assoc : (a b c : ℕ) → bit_or (bit_or a b) c ≡ bit_or a (bit_or b c)
-or_assoc a b c = same_from_bits (bit_or (bit_or a b) c) (bit_or a (bit_or b c)) (λ i. simp bit_at_or (max_assoc (bit_at a i) (bit_at b i) (bit_at c i)))
+or_assoc a b c = same_from_bits (bit_or (bit_or a b) c) (bit_or a (bit_or b c))
+    (λ i. simp bit_at_or (max_assoc (bit_at a i) (bit_at b i) (bit_at c i)))
   where
     max_assoc : (x y z : ℕ) → max (max x y) z ≡ max x (max y z)
     max_assoc x y z = omega arith

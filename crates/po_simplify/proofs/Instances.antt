@@ -1,4 +1,5 @@
--- The two uses of a reading that follows another: words put into expressions, and words that answer the same questions alike.
+-- The two uses of a reading that follows another: words put into expressions, and words that answer the same
+-- questions alike.
 use Rattle.std.proofs.Common.{◌≡◌, ℕ, Bool, List, [], ◌∷◌, map, refl, sym, ◌∙◌, ap}
 use Rattle.po_word.specs.Exprs.{Expr, Ask, Zero, One, Ones, Pow2, Within, Same, Related, ask_map, expr_value}
 use Rattle.po_term.specs.Tree.{Tree, Const, Leaf, Read, Unary, Binary, tree_map}
@@ -42,7 +43,8 @@ abbrev pub AnswerAlike : List ℕ → List ℕ → List (Ask Expr) → Type 0
 AnswerAlike ws us [] = Unit {0}
 AnswerAlike ws us (q ∷ qs) = ((exprs us).says q ≡ (exprs ws).says q) × AnswerAlike ws us qs
 
-pub same_alike : (ws us : List ℕ) (qs : List (Ask Expr)) → AnswerAlike ws us qs → Alike (exprs ws) (exprs us) (λ e. e) qs
+pub same_alike : (ws us : List ℕ) (qs : List (Ask Expr)) → AnswerAlike ws us qs → Alike (exprs ws) (exprs us) (λ e. e)
+    qs
 same_alike ws us [] h = tt
 same_alike ws us (q ∷ qs) h = (rw (same_ask q) h.0, same_alike ws us qs h.1)
 
@@ -51,12 +53,18 @@ module _ {L : Type 0} (same : L → L → Bool) where
   same_met m = rw (same_tree m.got) (rw (same_asks m.asked))
 
   -- simplifying and then putting in words is putting them in and then simplifying
-  pub simple_puts_in : {M : Type 0} (same_after : M → M → Bool) (g : L → M) → ((a b : L) → same_after (g a) (g b) ≡ same a b) → (ws : List ℕ) (t : Tree Expr L) → tree_map (expr_value ws) g (simple (exprs ws) same t).got ≡ (simple words same_after (tree_map (expr_value ws) g t)).got
+  pub simple_puts_in : {M : Type 0} (same_after : M → M → Bool) (g : L → M)
+      → ((a b : L) → same_after (g a) (g b) ≡ same a b) → (ws : List ℕ) (t : Tree Expr L) → tree_map (expr_value ws) g
+      (simple (exprs ws) same t).got ≡ (simple words same_after (tree_map (expr_value ws) g t)).got
   simple_puts_in {M = M} same_after g apart ws t =
-      sym (ap (λ (m : Met ℕ (Tree ℕ M)). m.got) (simple-follows (exprs ws) words (λ e. expr_value ws e) g same same_after (values_carry ws) apart t (values_alike ws (simple (exprs ws) same t).asked)))
+      sym (ap (λ (m : Met ℕ (Tree ℕ M)). m.got) (simple-follows (exprs ws) words (λ e. expr_value ws e) g same
+      same_after (values_carry ws) apart t (values_alike ws (simple (exprs ws) same t).asked)))
 
   -- words that answer the questions alike meet the same questions, and get the same result
-  pub simple_alike : (ws us : List ℕ) (t : Tree Expr L) → AnswerAlike ws us (simple (exprs ws) same t).asked → simple (exprs us) same t ≡ simple (exprs ws) same t
+  pub simple_alike : (ws us : List ℕ) (t : Tree Expr L) → AnswerAlike ws us (simple (exprs ws) same t).asked
+      → simple (exprs us) same t ≡ simple (exprs ws) same t
   simple_alike ws us t h =
-      let e : simple (exprs us) same (tree_map (λ e. e) (λ p. p) t) ≡ met_map (λ e. e) (tree_map (λ e. e) (λ p. p)) (simple (exprs ws) same t) = simple-follows (exprs ws) (exprs us) (λ e. e) (λ p. p) same same (same_carry ws us) (λ p q. refl) t (same_alike ws us (simple (exprs ws) same t).asked h) in
+      let e : simple (exprs us) same (tree_map (λ e. e) (λ p. p) t) ≡ met_map (λ e. e) (tree_map (λ e. e) (λ p. p))
+      (simple (exprs ws) same t) = simple-follows (exprs ws) (exprs us) (λ e. e) (λ p. p) same same
+      (same_carry ws us) (λ p q. refl) t (same_alike ws us (simple (exprs ws) same t).asked h) in
       (rw (same_tree t) at e) ∙ same_met (simple (exprs ws) same t)

@@ -1,4 +1,5 @@
--- The rows for a + b in stages, one operand at a time, and the row for a constant on the right of an operator that commutes.
+-- The rows for a + b in stages, one operand at a time, and the row for a constant on the right of an operator that
+-- commutes.
 use Rattle.std.specs.Prelude.{Bool}
 use Rattle.po_word.specs.declared.operator.Un.TheVariants.{Neg}
 use Rattle.po_word.specs.declared.operator.Bin.{Bin}

@@ -1,4 +1,5 @@
-//! Instructions: the terms of each transfer are simplified from left to right, and then a branch on two constants is decided.
+//! Instructions: the terms of each transfer are simplified from left to right, and then a branch on two constants is
+//! decided.
 ghost use Rattle.std.specs.Prelude.{◌≡◌, ◌++◌, ◌∷◌, [], IfOk, OnOk};
 ghost use Rattle.std.specs.Option.{option_to_list};
 ghost use Rattle.po_term.specs.Terms.{tree_of, State, IsState};
@@ -12,8 +13,8 @@ use po_term::{Cond, Instr, Label, Term, Transfer};
 use po_word::{OutOfMemory, Rel, holds};
 use std::alloc::Global;
 
-/// What becomes of a branch on two simplified terms (docs/OPTIMISER.md, "Instructions"). On two constants it is a jump where the
-/// relation holds, and nothing where it doesn't.
+/// What becomes of a branch on two simplified terms (docs/OPTIMISER.md, "Instructions"). On two constants it is a
+/// jump where the relation holds, and nothing where it doesn't.
 pub fn decide(a: Term, b: Term, rel: Rel, to: Label) -> Option<Transfer>
     ensures { moves_of (option_to_list result) ≡ (decided words same_register (tree_of a) (tree_of b) rel to).got }
 {
@@ -39,7 +40,8 @@ fn simplify_branch(
     rel: Rel,
     to: Label,
 ) -> Result<Option<Transfer>, OutOfMemory>
-    ensures made { IfOk result (λ kept. moves_of (option_to_list kept) ≡ (simple_move words same_register (Ends (branch_of cond rel to))).got) }
+    ensures made { IfOk result (λ kept. moves_of (option_to_list kept)
+        ≡ (simple_move words same_register (Ends (branch_of cond rel to))).got) }
     ensures fits { OnOk result (MoveHasWords (Ends (branch_of cond rel to))) }
 {
     match cond {
@@ -54,7 +56,8 @@ fn simplify_branch(
 
 /// What becomes of a transfer: none is a branch that is never taken.
 fn simplify_transfer(alloc: Global, t: Transfer) -> Result<Option<Transfer>, OutOfMemory>
-    ensures made { IfOk result (λ kept. moves_of (option_to_list kept) ≡ (simple_move words same_register (move_of t)).got) }
+    ensures made { IfOk result (λ kept. moves_of (option_to_list kept)
+        ≡ (simple_move words same_register (move_of t)).got) }
     ensures fits { OnOk result (MoveHasWords (move_of t)) }
 {
     match t {
@@ -88,7 +91,8 @@ fn push(xs: &mut Vec<Transfer>, t: Transfer) -> Result<(), OutOfMemory>
 
 /// Appends what becomes of a transfer.
 fn push_simplified(alloc: Global, xs: &mut Vec<Transfer>, t: Transfer) -> Result<(), OutOfMemory>
-    ensures made { OnOk result (moves_of xs.new.items ≡ moves_of xs.old.items ++ (simple_move words same_register (move_of t)).got) }
+    ensures made { OnOk result (moves_of xs.new.items ≡ moves_of xs.old.items
+        ++ (simple_move words same_register (move_of t)).got) }
     ensures fits { OnOk result (MoveHasWords (move_of t)) }
 {
     match simplify_transfer(alloc, t)? {
@@ -111,9 +115,9 @@ fn simplified(alloc: Global, i: Instr) -> Result<Instr, OutOfMemory>
 
 /// The instruction simplified (docs/OPTIMISER.md, "Instructions").
 ///
-/// In every state it does what the instruction that was passed does: it sets the same registers to the same words, compares and
-/// stores the same words, and goes on at the same label. It has no transfer where all that it had was a branch that is never
-/// taken. It fails only where memory is refused.
+/// In every state it does what the instruction that was passed does: it sets the same registers to the same words,
+/// compares and stores the same words, and goes on at the same label. It has no transfer where all that it had was a
+/// branch that is never taken. It fails only where memory is refused.
 #[tactic(auto, using(crate::proofs::Acts::moves_kept))]
 pub fn simplify_instr(alloc: Global, i: Instr) -> Result<Instr, OutOfMemory>
     ensures made { IfOk result (λ r. instr_of r ≡ (simple_moves words same_register (instr_of i)).got) }

@@ -39,27 +39,31 @@ pub fn binary_made(alloc: Global, op: Bin, a: Term, b: Term) -> Result<Term, Out
     }
 }
 
-/// The simplified term of an operator and its operand, which is simplified already (docs/OPTIMISER.md, "The simplifier").
+/// The simplified term of an operator and its operand, which is simplified already (docs/OPTIMISER.md, "The
+/// simplifier").
 ///
-/// In every state its value is the operator's of the operand's value, where the operand's constants are words. It fails only where
-/// memory is refused.
+/// In every state its value is the operator's of the operand's value, where the operand's constants are words. It
+/// fails only where memory is refused.
 #[tactic(auto, using(crate::proofs::Worths::unary_kept))]
 pub fn make_un(alloc: Global, op: Un, a: Term) -> Result<Term, OutOfMemory>
     ensures made { IfOk result (λ r. tree_of r ≡ (unary_of words same_register op (tree_of a)).got) }
-    ensures kept { IfOk result (λ r. (s : State) → IsState s → HasWords (tree_of a) → IsWorth s (tree_of r) (un_value op (value s (tree_of a)))) }
+    ensures kept { IfOk result (λ r. (s : State) → IsState s → HasWords (tree_of a) → IsWorth s (tree_of r)
+        (un_value op (value s (tree_of a)))) }
 {
     let r = unary_made(alloc, op, a)?;
     Ok(r)
 }
 
-/// The simplified term of an operator and its operands, which are simplified already (docs/OPTIMISER.md, "The simplifier").
+/// The simplified term of an operator and its operands, which are simplified already (docs/OPTIMISER.md, "The
+/// simplifier").
 ///
-/// In every state its value is the operator's of the operands' values, where the operands' constants are words. It fails only where
-/// memory is refused.
+/// In every state its value is the operator's of the operands' values, where the operands' constants are words. It
+/// fails only where memory is refused.
 #[tactic(auto, using(crate::proofs::Worths::binary_kept))]
 pub fn make_bin(alloc: Global, op: Bin, a: Term, b: Term) -> Result<Term, OutOfMemory>
     ensures made { IfOk result (λ r. tree_of r ≡ (binary_of words same_register op (tree_of a) (tree_of b)).got) }
-    ensures kept { IfOk result (λ r. (s : State) → IsState s → HasWords (tree_of a) → HasWords (tree_of b) → IsWorth s (tree_of r) (bin_value op (value s (tree_of a)) (value s (tree_of b)))) }
+    ensures kept { IfOk result (λ r. (s : State) → IsState s → HasWords (tree_of a) → HasWords (tree_of b)
+        → IsWorth s (tree_of r) (bin_value op (value s (tree_of a)) (value s (tree_of b)))) }
 {
     let r = binary_made(alloc, op, a, b)?;
     Ok(r)

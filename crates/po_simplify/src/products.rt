@@ -5,7 +5,8 @@ ghost use Rattle.std.specs.Prelude.{◌≡◌, IfOk};
 ghost use Rattle.po_word.specs.Exprs.{log2};
 ghost use Rattle.po_term.specs.Terms.{tree_of};
 ghost use Rattle.po_term.specs.Kinds.{words};
-ghost use Rattle.po_term.specs.Simplified.{same_register, times_plain, times_const, and_plain, and_const, or_const, xor_const, make_swapped, make_shift};
+ghost use Rattle.po_term.specs.Simplified.{same_register, times_plain, times_const, and_plain, and_const, or_const};
+ghost use Rattle.po_term.specs.Simplified.{xor_const, make_swapped, make_shift};
 ghost use Rattle.po_simplify.specs.Staged.{onto_const};
 
 use crate::parts::binary;
@@ -126,7 +127,8 @@ fn with_const(alloc: Global, op: Bin, a: Term, c: u32) -> Result<Term, OutOfMemo
 
 /// The constructor of `(a op b)`, for `*`, `&`, `|` and `^`.
 pub fn commuting(alloc: Global, op: Bin, a: Term, b: Term) -> Result<Term, OutOfMemory>
-    ensures { IfOk result (λ r. tree_of r ≡ (make_swapped words same_register op (onto_const words same_register op) (tree_of a) (tree_of b)).got) }
+    ensures { IfOk result (λ r. tree_of r ≡ (make_swapped words same_register op (onto_const words same_register op)
+        (tree_of a) (tree_of b)).got) }
 {
     match b {
         Term::Num(d) => match a {

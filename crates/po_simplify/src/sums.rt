@@ -1,11 +1,12 @@
 //! The constructors of `neg`, `not`, `+` and `-`: what each makes of operands that are simplified.
 //!
-//! Each function has the rows of docs/OPTIMISER.md ("The simplifier") in their order. A constant stands on the right of a sum, and a
-//! sum holds at most one.
+//! Each function has the rows of docs/OPTIMISER.md ("The simplifier") in their order. A constant stands on the right
+//! of a sum, and a sum holds at most one.
 ghost use Rattle.std.specs.Prelude.{◌≡◌, IfOk};
 ghost use Rattle.po_term.specs.Terms.{tree_of};
 ghost use Rattle.po_term.specs.Kinds.{words};
-ghost use Rattle.po_term.specs.Simplified.{reg_eq, same_register, make_neg, make_not, plain, plus_const, minus_from, make_minus, make_plus};
+ghost use Rattle.po_term.specs.Simplified.{reg_eq, same_register, make_neg, make_not, plain, plus_const, minus_from};
+ghost use Rattle.po_term.specs.Simplified.{make_minus, make_plus};
 ghost use Rattle.po_simplify.specs.Staged.{plus_right, plus_from, plus_staged};
 
 use crate::parts::{binary, boxed, unary};

@@ -38,8 +38,8 @@ fn simplified(alloc: Global, t: Term) -> Result<Term, OutOfMemory>
 
 /// The term simplified (docs/OPTIMISER.md, "The simplifier").
 ///
-/// In every state it has the value of the term that was passed. It recurses as deep as the term, whose callers pass terms of
-/// well-formed instructions, of at most 64 nodes and depth 16. It fails only where memory is refused.
+/// In every state it has the value of the term that was passed. It recurses as deep as the term, whose callers pass
+/// terms of well-formed instructions, of at most 64 nodes and depth 16. It fails only where memory is refused.
 #[tactic(auto, using(crate::proofs::Worths::simple_kept))]
 pub fn simplify(alloc: Global, t: Term) -> Result<Term, OutOfMemory>
     ensures made { IfOk result (λ r. tree_of r ≡ (simple words same_register (tree_of t)).got) }

@@ -24,7 +24,8 @@ pub data Action : Type 0 where
   Calls : Sym → ℕ → Action
   Returns : Action
 
--- what one transfer does: a branch on two terms jumps where the relation holds of their words, and does nothing elsewhere
+-- what one transfer does: a branch on two terms jumps where the relation holds of their words, and does nothing
+-- elsewhere
 abbrev pub action : State → PlainMove → List Action
 action s (SetTo r t) = Sets r (value s t) ∷ []
 action s (CcTo t u) = Compares (value s t) (value s u) ∷ []

@@ -19,7 +19,14 @@ words = record { number = λ n. n; un = un_value; bin = bin_value; log2 = log2; 
 
 -- the constants that are expressions, where a fold writes an expression and hole k is the word k for a question
 abbrev pub exprs : List ℕ → Kind Expr
-exprs ws = record { number = Number; un = UnOf; bin = BinOf; log2 = Log2Of; says = λ q. is_so (ask_map (expr_value ws) q) }
+exprs ws = record {
+  number = Number;
+  un = UnOf;
+  bin = BinOf;
+  log2 = Log2Of;
+  says = λ q.
+      is_so (ask_map (expr_value ws) q);
+}
 
 pub record Met (K A : Type 0) : Type 0 where
   pub got : A

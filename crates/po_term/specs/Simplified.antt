@@ -1,7 +1,8 @@
 -- The simplifier's table.
 --
--- Each operator has a constructor, which makes a term of operands that are simplified. Its clauses are the rows of the table
--- in docs/OPTIMISER.md ("The simplifier"), and the first that applies is taken. a, b, t, u are terms, c, d are constants;
+-- Each operator has a constructor, which makes a term of operands that are simplified. Its clauses are the rows of
+-- the table in docs/OPTIMISER.md ("The simplifier"), and the first that applies is taken. a, b, t, u are terms, c, d
+-- are constants;
 -- `k.un`, `k.bin` fold constants, and `ask k (Zero c) yes no` is the question whether c is 0.
 -- At `words` this is the simplifier. At another kind of constants it is the same table read over them.
 use Rattle.std.specs.Prelude.{Bool, true, false, ◌==◌, if◌then◌else◌, List, [], ◌∷◌, ◌++◌}
@@ -74,7 +75,8 @@ module _ {K L : Type 0} (k : Kind K) (same : L → L → Bool) where
   make_plus (Const c) (Const d) = give (Const (k.bin Add c d))
   make_plus (Const c) b = plus_const b c
   make_plus a (Const c) = plus_const a c
-  make_plus (Binary Add t (Const c)) (Binary Add u (Const d)) = and_then (make_plus t u) (λ s. plus_const s (k.bin Add c d))
+  make_plus (Binary Add t (Const c)) (Binary Add u (Const d)) =
+      and_then (make_plus t u) (λ s. plus_const s (k.bin Add c d))
   make_plus (Binary Add t (Const c)) b = and_then (make_plus t b) (λ s. plus_const s c)
   make_plus a (Binary Add u (Const d)) = and_then (make_plus a u) (λ s. plus_const s d)
   make_plus a (Unary Neg u) = make_minus a u

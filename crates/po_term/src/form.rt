@@ -1,10 +1,11 @@
-//! Which instructions are well formed. A term is first looked at down to its limit of depth and no deeper, so that no term makes
-//! the test run out of stack; only then are its nodes counted.
+//! Which instructions are well formed. A term is first looked at down to its limit of depth and no deeper, so that no
+//! term makes the test run out of stack; only then are its nodes counted.
 ghost use Rattle.std.specs.Prelude.{◌≡◌, ◌≢◌, ◌↔◌, ◌<◌, ◌≤◌, ◌^◌, IsTrue, All, AllPairs, length};
 ghost use Rattle.po_term.specs.Tree.{tree_depth, EachConst, EachLeaf};
 ghost use Rattle.po_term.specs.Terms.{tree_of};
 ghost use Rattle.po_term.specs.Moves.{move_of, instr_of};
-ghost use Rattle.po_term.specs.Form.{IsRegister, IsPlace, WellFormedTerm, WellFormedMove, kind_of, Sets, GoesBefore, WellFormed};
+ghost use Rattle.po_term.specs.Form.{IsRegister, IsPlace, WellFormedTerm, WellFormedMove, kind_of, Sets, GoesBefore};
+ghost use Rattle.po_term.specs.Form.{WellFormed};
 
 use crate::{Cond, Instr, Reg, Term, Transfer, size};
 
@@ -24,7 +25,8 @@ pub fn well_formed(i: &Instr) -> bool
 
 fn is_well_formed_list(xs: &[Transfer]) -> bool
     ensures { IsTrue result ↔
-        ((1 ≤ length xs.now) × (length xs.now ≤ 4) × AllPairs (λ x y. GoesBefore (move_of x) (move_of y)) xs.now × All (λ t. WellFormedMove (move_of t)) xs.now) }
+        ((1 ≤ length xs.now) × (length xs.now ≤ 4) × AllPairs (λ x y. GoesBefore (move_of x) (move_of y)) xs.now
+        × All (λ t. WellFormedMove (move_of t)) xs.now) }
 {
     if xs.is_empty() || xs.len() > MAX_TRANSFERS {
         return false;

@@ -1,7 +1,8 @@
 //! Terms, transfers and instructions.
 //!
-//! `term` has registers, symbols, labels and terms; `transfer` has what an instruction is made of. In contracts a term is seen as
-//! its plain tree (`tree_of`), and a transfer as its plain move (`move_of`). `measure` has size and depth, `same` equality,
+//! `term` has registers, symbols, labels and terms; `transfer` has what an instruction is made of. In contracts a
+//! term is seen as its plain tree (`tree_of`), and a transfer as its plain move (`move_of`). `measure` has size and
+//! depth, `same` equality,
 //! `copy` the copies, and `form` says which instructions are well formed.
 //!
 //! Its tests stand in `po_base_rows`.

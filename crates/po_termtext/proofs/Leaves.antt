@@ -1,5 +1,6 @@
 -- Words that are whole terms, and operators: what is read prints the word, and the printed word is read.
-use Rattle.std.proofs.Common.{◌≡◌, ◌≢◌, ℕ, ◌+◌, ◌-◌, ◌≤◌, ◌<◌, ◌^◌, List, [], ◌∷◌, ◌++◌, true, false, cond, Option, Some, None, refl, sym, ap, ◌∙◌, subst, arith, length, get_or, suc, zero, ◌⊎◌, inl, inr}
+use Rattle.std.proofs.Common.{◌≡◌, ◌≢◌, ℕ, ◌+◌, ◌-◌, ◌≤◌, ◌<◌, ◌^◌, List, [], ◌∷◌, ◌++◌, true, false, cond, Option}
+use Rattle.std.proofs.Common.{Some, None, refl, sym, ap, ◌∙◌, subst, arith, length, get_or, suc, zero, ◌⊎◌, inl, inr}
 use Rattle.std.specs.Prelude.{◌==◌, codes}
 use Rattle.std.specs.List.{list_all}
 use Rattle.std.specs.Option.{option_map}
@@ -15,17 +16,21 @@ use Rattle.po_term.specs.Tree.{Tree, Const, Leaf, tree_depth}
 use Rattle.po_term.specs.Terms.{Place, InReg, AtSym}
 use Rattle.po_termtext.specs.TermText.{const_text, reg_text, place_text, term_text, bin_text}
 use Rattle.po_termtext.specs.Form.{IsReg, IsPlace, HasNumbers}
-use Rattle.po_termtext.specs.Reading.{behind, same, is_digit, number_in, const_in, reg_named, virt_in, symbol_in, leaf_in, operator_in, in_word}
+use Rattle.po_termtext.specs.Reading.{behind, same, is_digit, number_in, const_in, reg_named, virt_in, symbol_in}
+use Rattle.po_termtext.specs.Reading.{leaf_in, operator_in, in_word}
 use Rattle.po_termtext.proofs.Options.{chosen, both, mapped, bound, either}
 use Rattle.po_termtext.proofs.Words.{behind_found}
-use Rattle.po_termtext.proofs.Numbers.{number_found, number_again, const_found, const_again, decimal_digits, decimal_some, head_digit, low_text, high_text, halves}
+use Rattle.po_termtext.proofs.Numbers.{number_found, number_again, const_found, const_again, decimal_digits}
+use Rattle.po_termtext.proofs.Numbers.{decimal_some, head_digit, low_text, high_text, halves}
 
 same_text : (v w : List ℕ) → same v w ≡ true → v ≡ w
 same_text v w h = (bytes_eq-Decides v w).0 h
 
 -- one of the choices: the word is this text and gives this value, or the others decide
-choice : {A : Type 0} (w text : List ℕ) (x y : A) (other : Option A) → cond (same w text) (Some x) other ≡ Some y → ((w ≡ text) × (x ≡ y)) ⊎ (other ≡ Some y)
-choice w text x y other e = elim (chosen (same w text) (Some x) other (Some y) e) [ inl h ↦ inl (same_text w text h.0, cc) | inr h ↦ inr h.1 ]
+choice : {A : Type 0} (w text : List ℕ) (x y : A) (other : Option A) → cond (same w text) (Some x) other ≡ Some y
+    → ((w ≡ text) × (x ≡ y)) ⊎ (other ≡ Some y)
+choice w text x y other e = elim (chosen (same w text) (Some x) other (Some y) e)
+    [ inl h ↦ inl (same_text w text h.0, cc) | inr h ↦ inr h.1 ]
 
 arg_text : (n : ℕ) → n < 10 → reg_text (Arg n) ≡ codes "arg" ++ ((48 + n) ∷ [])
 arg_text n h = ap (λ (ds : List ℕ). codes "arg" ++ ds) (decimal_digit n h)
@@ -71,7 +76,8 @@ virt_found w t e =
     let number = bound _ (number_in digits.0) t digits.2 in
     let facts = number_found digits.0 number.0 number.1 in
     let made : Leaf (InReg (Virt number.0)) ≡ t = cc in
-    let text : w ≡ codes "v" ++ decimal number.0 = behind_found (codes "v") w digits.0 digits.1 ∙ ap (λ (ds : List ℕ). codes "v" ++ ds) facts.1 in
+    let text : w ≡ codes "v" ++ decimal number.0 = behind_found (codes "v") w digits.0 digits.1
+    ∙ ap (λ (ds : List ℕ). codes "v" ++ ds) facts.1 in
     subst (IsLeaf w) made (record { numbers = facts.0; text = text; flat = omega arith })
 
 symbol_found : (w : List ℕ) (t : Tree ℕ Place) → symbol_in w ≡ Some t → IsLeaf w t
@@ -80,7 +86,8 @@ symbol_found w t e =
     let number = bound _ (number_in digits.0) t digits.2 in
     let facts = number_found digits.0 number.0 number.1 in
     let made : Leaf (AtSym (record { 0 = number.0 })) ≡ t = cc in
-    let text : w ≡ codes "&s" ++ decimal number.0 = behind_found (codes "&s") w digits.0 digits.1 ∙ ap (λ (ds : List ℕ). codes "&s" ++ ds) facts.1 in
+    let text : w ≡ codes "&s" ++ decimal number.0 = behind_found (codes "&s") w digits.0 digits.1
+    ∙ ap (λ (ds : List ℕ). codes "&s" ++ ds) facts.1 in
     subst (IsLeaf w) made (record { numbers = facts.0; text = text; flat = omega arith })
 
 -- a term that one word is read as has that word as its text
@@ -156,7 +163,8 @@ digit_in_word b h = grind (arith, nat_tests)
 
 digits_in_word : (ds : List ℕ) → list_all is_digit ds ≡ true → list_all in_word ds ≡ true
 digits_in_word [] h = refl
-digits_in_word (d ∷ ds) h = let parts = both (is_digit d) (list_all is_digit ds) h in rw (digit_in_word d parts.0) (digits_in_word ds parts.1)
+digits_in_word (d ∷ ds) h = let parts = both (is_digit d) (list_all is_digit ds) h in
+    rw (digit_in_word d parts.0) (digits_in_word ds parts.1)
 
 decimal_in_word : (n : ℕ) → n < 2 ^ 32 → list_all in_word (decimal n) ≡ true
 decimal_in_word n h = digits_in_word (decimal n) (decimal_digits n h)
@@ -238,13 +246,28 @@ pub record IsFront (w : List ℕ) : Type 0 where
 
 const_front : (w : List ℕ) → 45 ≤ get_or w 0 0 → get_or w 0 0 ≤ 57 → IsFront w
 const_front [] low high = absurd (omega (arith, low))
-const_front (b ∷ ds) low high = record { some = omega arith; bracket = omega (arith, low); memory = omega (arith, high); word = omega (arith, high) }
+const_front (b ∷ ds) low high = record {
+  some = omega arith;
+  bracket = omega (arith, low);
+  memory = omega (arith, high);
+  word = omega (arith, high);
+}
 
 place_front : (p : Place) → IsFront (place_text p)
-place_front (InReg (Virt n)) = record { some = omega arith; bracket = omega arith; memory = omega arith; word = omega arith }
+place_front (InReg (Virt n)) = record {
+  some = omega arith;
+  bracket = omega arith;
+  memory = omega arith;
+  word = omega arith;
+}
 place_front (InReg Fp) = record { some = omega arith; bracket = omega arith; memory = omega arith; word = omega arith }
 place_front (InReg Rv) = record { some = omega arith; bracket = omega arith; memory = omega arith; word = omega arith }
-place_front (InReg (Arg n)) = record { some = omega arith; bracket = omega arith; memory = omega arith; word = omega arith }
+place_front (InReg (Arg n)) = record {
+  some = omega arith;
+  bracket = omega arith;
+  memory = omega arith;
+  word = omega arith;
+}
 place_front (AtSym s) = record { some = omega arith; bracket = omega arith; memory = omega arith; word = omega arith }
 
 -- the text of a term of one word is read as it
@@ -254,7 +277,11 @@ pub record ReadsAgain (t : Tree ℕ Place) : Type 0 where
   pub front : IsFront (term_text t)
 
 pub const_reads : (c : ℕ) → c < 2 ^ 32 → ReadsAgain (Const c)
-const_reads c h = let range = const_range c h in record { word = const_in_word c h; read = const_leaf c h; front = const_front (const_text c) range.0 range.1 }
+const_reads c h = let range = const_range c h in record {
+  word = const_in_word c h;
+  read = const_leaf c h;
+  front = const_front (const_text c) range.0 range.1;
+}
 
 pub place_reads : (p : Place) → IsPlace p → ReadsAgain (Leaf p)
 place_reads p h = record { word = place_in_word p h; read = place_leaf p h; front = place_front p }

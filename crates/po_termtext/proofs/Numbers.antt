@@ -1,5 +1,7 @@
 -- Numbers and constants: what a word is read as is what it prints.
-use Rattle.std.proofs.Common.{◌≡◌, ℕ, ◌-◌, ◌≤◌, ◌<◌, ◌^◌, List, [], ◌∷◌, Result, Ok, Err, true, false, Bool, Option, Some, None, refl, sym, ap, ◌∙◌, subst, arith, rules, length, get_or, suc, zero, ◌⊎◌, inl, inr}
+use Rattle.std.proofs.Common.{◌≡◌, ℕ, ◌-◌, ◌≤◌, ◌<◌, ◌^◌, List, [], ◌∷◌, Result, Ok, Err, true, false, Bool, Option}
+use Rattle.std.proofs.Common.{Some, None, refl, sym, ap, ◌∙◌, subst, arith, rules, length, get_or, suc, zero, ◌⊎◌}
+use Rattle.std.proofs.Common.{inl, inr}
 use Rattle.std.specs.Prelude.{◌&&◌, nat_le, nat_lt, ◌==◌, not}
 use Rattle.std.specs.List.{list_all}
 use Rattle.std.specs.Str.{IsUtf8}
@@ -11,7 +13,8 @@ use Rattle.std.proofs.lemmas.Str.{IsUtf8-from_ascii}
 use Rattle.std.specs.Fmt.{decimal, signed_decimal}
 use Rattle.std.specs.Int.{w32, cast_signed}
 use Rattle.std.proofs.lemmas.Int.{ints}
-use Rattle.std.proofs.lemmas.Fmt.{digits_decimal, digits_value-decimal, decimal-digits_value, decimal_nonempty, first_decimal, decimal_digit}
+use Rattle.std.proofs.lemmas.Fmt.{digits_decimal, digits_value-decimal, decimal-digits_value, decimal_nonempty}
+use Rattle.std.proofs.lemmas.Fmt.{first_decimal, decimal_digit}
 use lib.IntN.{pos}
 use Rattle.po_termtext.specs.TermText.{const_text}
 use Rattle.po_termtext.specs.Reading.{◌>>=◌, is_digit, begins_well, number_in, const_in, positive_in, negative_in}
@@ -39,14 +42,22 @@ some_digit (d ∷ ds) h = omega arith
 not_below : (n k : ℕ) → (n < k → ⊥) → nat_lt n k ≡ false
 not_below n k h = grind (arith, nat_tests)
 
-refused : {E : Type 0} (ds : List ℕ) (r : Result ℕ E) (e : E) → r ≡ Err e → OkIff r ((0 < length ds) × (digits_value 10 ds < 2 ^ 32)) (digits_value 10 ds) → 0 < length ds → nat_lt (digits_value 10 ds) (2 ^ 32) ≡ false
+refused : {E : Type 0} (ds : List ℕ) (r : Result ℕ E) (e : E) → r ≡ Err e
+    → OkIff r ((0 < length ds) × (digits_value 10 ds < 2 ^ 32)) (digits_value 10 ds) → 0 < length ds
+    → nat_lt (digits_value 10 ds) (2 ^ 32) ≡ false
 refused ds (Ok n) e is h some = cc
 refused ds (Err f) e is h some = not_below (digits_value 10 ds) (2 ^ 32) (λ below. h (some, below))
 
 -- digits that are not parsed are no number
-pub unparsed : {E : Type 0} (ds : List ℕ) (r : Result ℕ E) (e : E) → r ≡ Err e → ParsesUnsigned 32 10 ds r → list_all is_digit ds ≡ true → begins_well ds ≡ true → None ≡ number_in ds
+pub unparsed : {E : Type 0} (ds : List ℕ) (r : Result ℕ E) (e : E) → r ≡ Err e → ParsesUnsigned 32 10 ds r
+    → list_all is_digit ds ≡ true → begins_well ds ≡ true → None ≡ number_in ds
 unfolding number_in
-unparsed ds r e is h digits front = rw (digits, front, refused ds r e is (parse_digits own 32 ds r h digits) (some_digit ds front)) refl
+unparsed ds r e is h digits front = rw (
+  digits,
+  front,
+  refused ds r e is (parse_digits own 32 ds r h digits)
+      (some_digit ds front),
+) refl
 
 -- the first digit is 0 only where it is the only one
 abbrev OneZero : List ℕ → Type 0
@@ -67,7 +78,8 @@ well (d ∷ e ∷ ds) some h = two_digits d (λ same. let two : suc (suc (length
 
 decimal_zero : (n : ℕ) → n < 2 ^ 64 → OneZero (decimal n)
 decimal_zero zero h = λ e. ap length (decimal_digit 0 (omega arith))
-decimal_zero (suc n) h = λ e. let more : 48 < get_or (decimal (suc n)) 0 0 = first_decimal (suc n) (omega arith) h in absurd (omega (arith, more, e))
+decimal_zero (suc n) h = λ e. let more : 48 < get_or (decimal (suc n)) 0 0 = first_decimal (suc n) (omega arith) h in
+    absurd (omega (arith, more, e))
 
 word_size : (n : ℕ) → n < 2 ^ 32 → n < 2 ^ 64
 word_size n h = omega arith
@@ -83,13 +95,15 @@ pub number_found : (ds : List ℕ) (n : ℕ) → number_in ds ≡ Some n → (n 
 unfolding number_in
 number_found ds n e =
     let value : ℕ = digits_value 10 ds in
-    elim (chosen ((list_all is_digit ds && begins_well ds) && nat_lt (digits_value 10 ds) (2 ^ 32)) (Some (digits_value 10 ds)) None (Some n) e) [
+    elim (chosen ((list_all is_digit ds && begins_well ds) && nat_lt (digits_value 10 ds) (2 ^ 32))
+    (Some (digits_value 10 ds)) None (Some n) e) [
       | inl h ↦
           let parts = both (list_all is_digit ds && begins_well ds) (nat_lt (digits_value 10 ds) (2 ^ 32)) h.0 in
           let front = both (list_all is_digit ds) (begins_well ds) parts.0 in
           let size : digits_value 10 ds < 2 ^ 32 = is_below (digits_value 10 ds) (2 ^ 32) parts.1 in
           let same : digits_value 10 ds ≡ n = cc in
-          let text : decimal (digits_value 10 ds) ≡ ds = decimal-digits_value own ds front.0 (some_digit ds front.1) (one_zero ds front.1) (word_size (digits_value 10 ds) size) in
+          let text : decimal (digits_value 10 ds) ≡ ds = decimal-digits_value own ds front.0 (some_digit ds front.1)
+          (one_zero ds front.1) (word_size (digits_value 10 ds) size) in
           (subst (λ (k : ℕ). k < 2 ^ 32) same size, sym text ∙ ap decimal same)
       | inr h ↦ cc
     ]
@@ -115,7 +129,8 @@ digit_range : (b : ℕ) → is_digit b ≡ true → (48 ≤ b) × (b ≤ 57)
 digit_range b h = (grind (arith, nat_tests), grind (arith, nat_tests))
 
 -- the first of some digits
-pub head_digit : (ds : List ℕ) → list_all is_digit ds ≡ true → 0 < length ds → (48 ≤ get_or ds 0 0) × (get_or ds 0 0 ≤ 57)
+pub head_digit : (ds : List ℕ) → list_all is_digit ds ≡ true → 0 < length ds → (48 ≤ get_or ds 0 0)
+    × (get_or ds 0 0 ≤ 57)
 head_digit [] h some = absurd (omega arith)
 head_digit (d ∷ ds) h some = digit_range d (both (is_digit d) (list_all is_digit ds) h).0
 
@@ -167,11 +182,13 @@ const_again c h = elim (halves c) [ inl low ↦ low_again c h low | inr high ↦
     low_again : (c : ℕ) → c < 2 ^ 32 → c < 2 ^ 31 → const_in (const_text c) ≡ Some c
     low_again c h low =
         let first = head_digit (decimal c) (decimal_digits c h) (decimal_some c h) in
-        ap const_in (low_text c low) ∙ first_of_const (decimal c) first.0 ∙ ap (λ (r : Option ℕ). r >>= positive_in) (number_again c h) ∙ rw (below c (2 ^ 31) low) refl
+        ap const_in (low_text c low) ∙ first_of_const (decimal c) first.0 ∙ ap (λ (r : Option ℕ). r >>= positive_in)
+        (number_again c h) ∙ rw (below c (2 ^ 31) low) refl
 
     high_again : (c : ℕ) → c < 2 ^ 32 → 2 ^ 31 ≤ c → const_in (const_text c) ≡ Some c
     high_again c h high =
-        ap const_in (high_text c high h) ∙ ap (λ (r : Option ℕ). r >>= negative_in) (number_again (2 ^ 32 - c) (omega arith)) ∙ negative_size c high h
+        ap const_in (high_text c high h) ∙ ap (λ (r : Option ℕ). r >>= negative_in)
+        (number_again (2 ^ 32 - c) (omega arith)) ∙ negative_size c high h
 
 positive_found : (m c : ℕ) → positive_in m ≡ Some c → (m < 2 ^ 31) × (m ≡ c)
 positive_found m c e = elim (chosen (nat_lt m (2 ^ 31)) (Some m) None (Some c) e) [
@@ -197,19 +214,23 @@ negative_found m c size e = elim (chosen (nat_lt 0 m && nat_le m (2 ^ 31)) (Some
 pub const_found : (w : List ℕ) (c : ℕ) → const_in w ≡ Some c → (c < 2 ^ 32) × (w ≡ const_text c)
 unfolding const_in
 const_found [] c e = cc
-const_found (b ∷ ds) c e = elim (chosen (b == 45) (number_in ds >>= negative_in) (number_in (b ∷ ds) >>= positive_in) (Some c) e) [
-  | inl h ↦
-      let read = bound negative_in (number_in ds) c h.1 in
-      let number = number_found ds read.0 read.1 in
-      let facts = negative_found read.0 c number.0 read.2 in
-      (facts.1, ap (λ (x : ℕ). x ∷ ds) (same_byte b 45 h.0) ∙ ap (λ (r : List ℕ). 45 ∷ r) (number.1 ∙ ap decimal facts.2) ∙ sym (high_text c facts.0 facts.1))
-  | inr h ↦
-      let read = bound positive_in (number_in (b ∷ ds)) c h.1 in
-      let number = number_found (b ∷ ds) read.0 read.1 in
-      let facts = positive_found read.0 c read.2 in
-      let low : c < 2 ^ 31 = subst (λ (k : ℕ). k < 2 ^ 31) facts.1 facts.0 in
-      (omega (arith, low), number.1 ∙ ap decimal facts.1 ∙ sym (low_text c low))
-]
+const_found (b ∷ ds) c e = elim (chosen (b == 45) (number_in ds >>= negative_in) (number_in (b ∷ ds) >>= positive_in)
+    (Some c) e) [
+      | inl h ↦
+          let read = bound negative_in (number_in ds) c h.1 in
+          let number = number_found ds read.0 read.1 in
+          let facts = negative_found read.0 c number.0 read.2 in (
+            facts.1,
+            ap (λ (x : ℕ). x ∷ ds) (same_byte b 45 h.0) ∙ ap (λ (r : List ℕ). 45 ∷ r)
+                (number.1 ∙ ap decimal facts.2) ∙ sym (high_text c facts.0 facts.1),
+          )
+      | inr h ↦
+          let read = bound positive_in (number_in (b ∷ ds)) c h.1 in
+          let number = number_found (b ∷ ds) read.0 read.1 in
+          let facts = positive_found read.0 c read.2 in
+          let low : c < 2 ^ 31 = subst (λ (k : ℕ). k < 2 ^ 31) facts.1 facts.0 in
+          (omega (arith, low), number.1 ∙ ap decimal facts.1 ∙ sym (low_text c low))
+    ]
   where
     same_byte : (a b : ℕ) → (a == b) ≡ true → a ≡ b
     same_byte a b h = grind (arith, nat_tests)

@@ -12,11 +12,13 @@ pub both : (a b : Bool) → (a && b) ≡ true → (a ≡ true) × (b ≡ true)
 both true b h = (refl, h)
 both false b h = cc
 
-pub mapped : {A B : Type 0} (f : A → B) (r : Option A) (y : B) → option_map f r ≡ Some y → (x : A) × (r ≡ Some x) × (f x ≡ y)
+pub mapped : {A B : Type 0} (f : A → B) (r : Option A) (y : B) → option_map f r ≡ Some y → (x : A) × (r ≡ Some x)
+    × (f x ≡ y)
 mapped f None y e = cc
 mapped f (Some x) y e = (x, refl, cc)
 
-pub bound : {A B : Type 0} (f : A → Option B) (r : Option A) (y : B) → (r >>= f) ≡ Some y → (x : A) × (r ≡ Some x) × (f x ≡ Some y)
+pub bound : {A B : Type 0} (f : A → Option B) (r : Option A) (y : B) → (r >>= f) ≡ Some y → (x : A) × (r ≡ Some x)
+    × (f x ≡ Some y)
 bound f None y e = cc
 bound f (Some x) y e = (x, refl, e)
 

@@ -1,5 +1,6 @@
 -- A whole text: reading is the inverse of printing.
-use Rattle.std.proofs.Common.{◌≡◌, ◌≢◌, ℕ, ◌+◌, ◌≤◌, List, [], ◌∷◌, ◌++◌, true, Option, Some, None, refl, sym, ap, ◌∙◌, subst, arith, IfSome, IfNone, inl, inr}
+use Rattle.std.proofs.Common.{◌≡◌, ◌≢◌, ℕ, ◌+◌, ◌≤◌, List, [], ◌∷◌, ◌++◌, true, Option, Some, None, refl, sym, ap}
+use Rattle.std.proofs.Common.{◌∙◌, subst, arith, IfSome, IfNone, inl, inr}
 use Rattle.std.specs.Prelude.{nat_le}
 use Rattle.std.specs.Option.{option_map}
 use Rattle.std.proofs.lemmas.Bool.Decides.{nat_tests}
@@ -32,7 +33,8 @@ record IsWhole (p : Seen (Tree ℕ Place)) (t : Tree ℕ Place) : Type 0 where
 whole_found : (p : Seen (Tree ℕ Place)) (t : Tree ℕ Place) → whole p ≡ Some t → IsWhole p t
 unfolding whole
 whole_found (u, []) t e = elim (chosen (nat_le (tree_size u) 64) (Some u) None (Some t) e) [
-  | inl h ↦ let same : u ≡ t = cc in subst (IsWhole (u, [])) same (record { tree = refl; rest = refl; size = is_at_most (tree_size u) 64 h.0 })
+  | inl h ↦ let same : u ≡ t = cc in subst (IsWhole (u, [])) same
+      (record { tree = refl; rest = refl; size = is_at_most (tree_size u) 64 h.0 })
   | inr h ↦ cc
 ]
 whole_found (u, b ∷ bs) t e = cc
@@ -44,7 +46,8 @@ text_found s t e =
     let read = bound whole (term_in 16 s) t e in
     let facts = term_found 16 s read.0 read.1 in
     let end = whole_found read.0 t read.2 in
-    let text : s ≡ term_text read.0.0 = facts.text ∙ ap (λ (r : List ℕ). term_text read.0.0 ++ r) end.rest ∙ append_none (term_text read.0.0) in (
+    let text : s ≡ term_text read.0.0 = facts.text ∙ ap (λ (r : List ℕ). term_text read.0.0 ++ r) end.rest
+    ∙ append_none (term_text read.0.0) in (
       record {
         numbers = subst HasNumbers end.tree facts.numbers;
         size = end.size;
@@ -78,13 +81,16 @@ text_of_one t u m n e =
     ap (tree_or t) (sym first ∙ ap (term_in d) e ∙ second)
 
 -- the three promises of reading, from what is read
-pub found_of : (s : List ℕ) (r : Option Term) → option_map tree_of r ≡ text_in s → IfSome r (λ t. IsTerm (tree_of t) × (s ≡ term_text (tree_of t)))
+pub found_of : (s : List ℕ) (r : Option Term) → option_map tree_of r ≡ text_in s
+    → IfSome r (λ t. IsTerm (tree_of t) × (s ≡ term_text (tree_of t)))
 found_of s None e = tt
 found_of s (Some t) e = text_found s (tree_of t) (sym e)
 
-pub none_of : (s : List ℕ) (r : Option Term) → option_map tree_of r ≡ text_in s → IfNone r ((t : Tree ℕ Place) → IsTerm t → s ≢ term_text t)
+pub none_of : (s : List ℕ) (r : Option Term) → option_map tree_of r ≡ text_in s
+    → IfNone r ((t : Tree ℕ Place) → IsTerm t → s ≢ term_text t)
 none_of s None e = λ t h same. let read : text_in s ≡ Some t = text_again s t h same in cc
 none_of s (Some t) e = tt
 
-pub again_of : (s : List ℕ) (r : Option Term) → option_map tree_of r ≡ text_in s → (t : Tree ℕ Place) → IsTerm t → s ≡ term_text t → option_map tree_of r ≡ Some t
+pub again_of : (s : List ℕ) (r : Option Term) → option_map tree_of r ≡ text_in s → (t : Tree ℕ Place) → IsTerm t
+    → s ≡ term_text t → option_map tree_of r ≡ Some t
 again_of s r e t h same = e ∙ text_again s t h same

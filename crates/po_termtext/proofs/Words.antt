@@ -1,5 +1,6 @@
 -- Words and marks at the front of a text.
-use Rattle.std.proofs.Common.{◌≡◌, ◌≢◌, ℕ, List, [], ◌∷◌, ◌++◌, Bool, true, false, cond, Option, Some, None, MatchOption, refl, sym, ap, ◌∙◌, subst, length, take, drop, arith, Bor, inl, inr}
+use Rattle.std.proofs.Common.{◌≡◌, ◌≢◌, ℕ, List, [], ◌∷◌, ◌++◌, Bool, true, false, cond, Option, Some, None}
+use Rattle.std.proofs.Common.{MatchOption, refl, sym, ap, ◌∙◌, subst, length, take, drop, arith, Bor, inl, inr}
 use Rattle.std.specs.Prelude.{◌==◌, not}
 use Rattle.std.specs.List.{take_while, list_all}
 use Rattle.std.specs.Option.{option_copied}
@@ -29,27 +30,32 @@ behind_found (c ∷ cs) (b ∷ bs) rest e = elim (chosen (b == c) (behind cs bs)
   | inr h ↦ cc
 ]
 
-none_behind : (mark text : List ℕ) (r : Option (List ℕ)) → behind mark text ≡ r → ((rest : List ℕ) → text ≢ mark ++ rest) → None ≡ r
+none_behind : (mark text : List ℕ) (r : Option (List ℕ)) → behind mark text ≡ r
+    → ((rest : List ℕ) → text ≢ mark ++ rest) → None ≡ r
 none_behind mark text None e h = refl
 none_behind mark text (Some rest) e h = absurd (h rest (behind_found mark text rest e))
 
 -- what taking a prefix gives
-pub behind_is : (mark text : List ℕ) (r : Option (Bor (List ℕ))) → MatchOption r ((rest : List ℕ) → text ≢ mark ++ rest) (λ x. text ≡ mark ++ x.now) → option_copied r ≡ behind mark text
+pub behind_is : (mark text : List ℕ) (r : Option (Bor (List ℕ))) → MatchOption r ((rest : List ℕ) → text ≢ mark
+    ++ rest) (λ x. text ≡ mark ++ x.now) → option_copied r ≡ behind mark text
 behind_is mark text None h = none_behind mark text (behind mark text) refl h
 behind_is mark text (Some x) h = sym (ap (behind mark) h ∙ behind_again mark x.now)
 
-taken : (t : Bool) (p : ℕ → Bool) (b : ℕ) (bs : List ℕ) → take (length (take_while p bs)) bs ≡ take_while p bs → take (length (cond t (b ∷ take_while p bs) [])) (b ∷ bs) ≡ cond t (b ∷ take_while p bs) []
+taken : (t : Bool) (p : ℕ → Bool) (b : ℕ) (bs : List ℕ) → take (length (take_while p bs)) bs ≡ take_while p bs
+    → take (length (cond t (b ∷ take_while p bs) [])) (b ∷ bs) ≡ cond t (b ∷ take_while p bs) []
 taken true p b bs e = ap (λ (r : List ℕ). b ∷ r) e
 taken false p b bs e = refl
 
 -- the front that passes is the front of its length
 pub take_passed : (p : ℕ → Bool) (s : List ℕ) → take (length (take_while p s)) s ≡ take_while p s
 take_passed p [] = refl
-take_passed p (b ∷ bs) = subst (λ (w : List ℕ). take (length w) (b ∷ bs) ≡ w) (sym (take_while-cons p b bs)) (taken (p b) p b bs (take_passed p bs))
+take_passed p (b ∷ bs) = subst (λ (w : List ℕ). take (length w) (b ∷ bs) ≡ w) (sym (take_while-cons p b bs))
+    (taken (p b) p b bs (take_passed p bs))
 
 -- a text is its first word and the rest
 pub word_and_rest : (s : List ℕ) → s ≡ word_of s ++ rest_of s
-word_and_rest s = sym (ap (λ (w : List ℕ). w ++ rest_of s) (sym (take_passed in_word s)) ∙ take-append-drop (length (word_of s)) s)
+word_and_rest s = sym (ap (λ (w : List ℕ). w ++ rest_of s) (sym (take_passed in_word s))
+    ∙ take-append-drop (length (word_of s)) s)
 
 -- no word goes on here
 abbrev pub ends : List ℕ → Bool

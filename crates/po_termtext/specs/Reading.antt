@@ -1,5 +1,6 @@
 -- What a text is read as, in the cases of the reader: a helper of the proofs that no public clause cites.
-use Rattle.std.specs.Prelude.{ℕ, ◌-◌, ◌^◌, List, [], ◌∷◌, length, drop, codes, Option, Some, None, Bool, true, false, not, nat_eq, nat_le, nat_lt, ◌==◌, ◌&&◌, ◌||◌, if◌then◌else◌, zero, suc}
+use Rattle.std.specs.Prelude.{ℕ, ◌-◌, ◌^◌, List, [], ◌∷◌, length, drop, codes, Option, Some, None, Bool, true, false}
+use Rattle.std.specs.Prelude.{not, nat_eq, nat_le, nat_lt, ◌==◌, ◌&&◌, ◌||◌, if◌then◌else◌, zero, suc}
 use Rattle.std.specs.List.{list_all, take_while}
 use Rattle.std.specs.Option.{option_map}
 use Rattle.std.specs.Cmp.Lexicographic.{pointwise}
@@ -43,7 +44,8 @@ begins_well (d ∷ e ∷ ds) = not (d == 48)
 
 -- a number below 2 ^ 32, without leading zeros
 unfoldable pub number_in : List ℕ → Option ℕ
-number_in ds = if list_all is_digit ds && begins_well ds && nat_lt (digits_value 10 ds) (2 ^ 32) then Some (digits_value 10 ds) else None
+number_in ds = if list_all is_digit ds && begins_well ds && nat_lt (digits_value 10 ds) (2 ^ 32)
+    then Some (digits_value 10 ds) else None
 
 abbrev pub positive_in : ℕ → Option ℕ
 positive_in m = if nat_lt m (2 ^ 31) then Some m else None
@@ -79,7 +81,8 @@ symbol_in w = do
 
 -- a word that is a whole term
 unfoldable pub leaf_in : List ℕ → Option (Tree ℕ Place)
-leaf_in w = or_else (option_map (λ r. Leaf (InReg r)) (reg_named w)) (or_else (virt_in w) (or_else (symbol_in w) (option_map Const (const_in w))))
+leaf_in w = or_else (option_map (λ r. Leaf (InReg r)) (reg_named w))
+    (or_else (virt_in w) (or_else (symbol_in w) (option_map Const (const_in w))))
 
 unfoldable pub operator_in : List ℕ → Option Bin
 operator_in w =
@@ -123,7 +126,8 @@ unfoldable pub closed : (Tree ℕ Place → Tree ℕ Place) → List ℕ → See
 closed make mark operand = option_map (λ rest. (make operand.0, rest)) (behind mark operand.1)
 
 -- by what stands behind `(`, `M[`, `neg(` or `not(` at the front of the text, with operands that are read so
-abbrev pub by_front : (List ℕ → Option (Seen (Tree ℕ Place))) → List ℕ → Option (List ℕ) → Option (List ℕ) → Option (List ℕ) → Option (List ℕ) → Option (Seen (Tree ℕ Place))
+abbrev pub by_front : (List ℕ → Option (Seen (Tree ℕ Place))) → List ℕ → Option (List ℕ) → Option (List ℕ)
+    → Option (List ℕ) → Option (List ℕ) → Option (Seen (Tree ℕ Place))
 by_front operand s (Some inner) memory negated inverse = do
   left ← operand inner
   op ← operator_seen left.1
@@ -136,7 +140,8 @@ by_front operand s None None None None = leaf_seen s
 
 -- one term at the front
 abbrev pub term_by : (List ℕ → Option (Seen (Tree ℕ Place))) → List ℕ → Option (Seen (Tree ℕ Place))
-term_by operand s = by_front operand s (behind (codes "(") s) (behind (codes "M[") s) (behind (codes "neg(") s) (behind (codes "not(") s)
+term_by operand s = by_front operand s (behind (codes "(") s) (behind (codes "M[") s) (behind (codes "neg(") s)
+    (behind (codes "not(") s)
 
 -- a term of at most this depth at the front
 unfoldable pub term_in : ℕ → List ℕ → Option (Seen (Tree ℕ Place))

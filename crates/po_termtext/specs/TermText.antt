@@ -72,7 +72,8 @@ term_text (Binary o a b) = codes "(" ++ term_text a ++ codes " " ++ bin_text o +
 abbrev pub ending_text : Ending ℕ Place Sym → List ℕ
 ending_text (GoTo l) = codes "goto " ++ label_text l
 ending_text (IfCc r l) = codes "if cc " ++ rel_text r ++ codes " goto " ++ label_text l
-ending_text (IfTwo a b r l) = codes "if " ++ term_text a ++ codes " ? " ++ term_text b ++ codes " " ++ rel_text r ++ codes " goto " ++ label_text l
+ending_text (IfTwo a b r l) = codes "if " ++ term_text a ++ codes " ? " ++ term_text b ++ codes " " ++ rel_text r
+    ++ codes " goto " ++ label_text l
 ending_text (CallOf s n) = codes "call " ++ symbol_text s ++ codes " " ++ decimal n
 ending_text Return = codes "ret"
 

@@ -1,6 +1,7 @@
 //! The text of terms, transfers and instructions (docs/LANGUAGE.md, "Term text").
 //!
-//! `print` writes it (its `push_` functions are for other printers too), `read` reads terms back. A term has one text, and a text is that of at most one term.
+//! `print` writes it (its `push_` functions are for other printers too), `read` reads terms back. A term has one
+//! text, and a text is that of at most one term.
 //!
 //! Its tests stand in `po_base_rows`.
 #![tactic(auto)]

@@ -1,5 +1,6 @@
 //! Reading terms. The depth that is left is carried down, so that no text overruns the stack.
-ghost use Rattle.std.specs.Prelude.{◌≡◌, codes, IfErr, ◌+◌, ◌<◌, ◌≤◌, ◌≢◌, ℕ, Option, Some, MatchOption, IfOk, IfSome, IfNone};
+ghost use Rattle.std.specs.Prelude.{◌≡◌, codes, IfErr, ◌+◌, ◌<◌, ◌≤◌, ◌≢◌, ℕ, Option, Some, MatchOption, IfOk};
+ghost use Rattle.std.specs.Prelude.{IfSome, IfNone};
 ghost use Rattle.std.specs.Option.{option_map};
 ghost use Rattle.po_term.specs.Tree.{Tree, tree_size, Unary, Binary};
 ghost use Rattle.po_term.specs.Tree.{Read as ReadAt};
@@ -20,13 +21,14 @@ const MAX_DEPTH: u32 = 16;
 /// No term has more nodes (docs/LANGUAGE.md, "Terms").
 const MAX_NODES: u32 = 64;
 
-/// The term that a text is the printed text of (docs/LANGUAGE.md, "Term text"); `None` where it is that of no term of at most
-/// 64 nodes and depth 16. Only memory can fail. The text is read once, from left to right.
+/// The term that a text is the printed text of (docs/LANGUAGE.md, "Term text"); `None` where it is that of no term of
+/// at most 64 nodes and depth 16. Only memory can fail. The text is read once, from left to right.
 pub fn read_term(alloc: Global, text: &[u8]) -> Result<Option<Term>, OutOfMemory>
     ensures found { IfOk result (λ read. IfSome read (λ t. IsTerm (tree_of t) × (text.now ≡ term_text (tree_of t)))) }
     ensures none { IfOk result (λ read. IfNone read ((t : Tree ℕ Place) → IsTerm t → text.now ≢ term_text t)) }
     // A printed term is read as that term.
-    ensures again { IfOk result (λ read. (t : Tree ℕ Place) → IsTerm t → text.now ≡ term_text t → option_map tree_of read ≡ Some t) }
+    ensures again { IfOk result (λ read. (t : Tree ℕ Place) → IsTerm t → text.now ≡ term_text t → option_map tree_of
+        read ≡ Some t) }
 {
     let read = read_text(alloc, text)?;
     Ok(read)
@@ -181,7 +183,8 @@ fn term<'a>(alloc: Global, depth: u32, text: &'a [u8]) -> Result<Parsed<'a>, Ref
 /// What is left of a number of nodes without those of a term; none where the term has more.
 #[tactic(auto, using(crate::proofs::Sizes::some_node))]
 fn nodes_left(term: &Term, nodes: u32) -> Option<u32>
-    ensures { MatchOption result (nodes < tree_size (tree_of term.now)) (λ left. left + tree_size (tree_of term.now) ≡ nodes) }
+    ensures { MatchOption result (nodes < tree_size (tree_of term.now)) (λ left. left + tree_size (tree_of term.now)
+        ≡ nodes) }
 {
     if nodes == 0 {
         return None;

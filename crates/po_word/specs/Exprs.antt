@@ -6,7 +6,8 @@ use Rattle.po_word.specs.declared.operator.Bin.{Bin}
 use Rattle.po_word.specs.declared.operator.Rel.{Rel}
 use Rattle.po_word.specs.Words.{un_value, bin_value, rel_value, signed}
 
--- a constant expression: a number, a hole by its number, an operator on expressions, or the place of the highest one bit
+-- a constant expression: a number, a hole by its number, an operator on expressions, or the place of the highest one
+-- bit
 pub data Expr : Type 0 where
   Number : ℕ → Expr
   AtHole : ℕ → Expr

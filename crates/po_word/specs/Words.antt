@@ -1,6 +1,8 @@
 -- Words, and what the operators and relations give of them.
--- A word is a whole number below 2 ^ 32. Whole numbers do not wrap, so each rule below says itself what it takes modulo 2 ^ 32.
-use Rattle.std.specs.Prelude.{ℕ, ◌+◌, ◌-◌, ◌*◌, ◌/◌, ◌%◌, ◌^◌, ◌==◌, bit_and, bit_or, bit_xor, nat_lt, nat_le, Bool, not, ℤ, pos, negsuc, int_lt}
+-- A word is a whole number below 2 ^ 32. Whole numbers do not wrap, so each rule below says itself what it takes
+-- modulo 2 ^ 32.
+use Rattle.std.specs.Prelude.{ℕ, ◌+◌, ◌-◌, ◌*◌, ◌/◌, ◌%◌, ◌^◌, ◌==◌, bit_and, bit_or, bit_xor, nat_lt, nat_le, Bool}
+use Rattle.std.specs.Prelude.{not, ℤ, pos, negsuc, int_lt}
 use Rattle.std.specs.Int.{w32, cast_signed, cast_unsigned}
 use Rattle.po_word.specs.declared.operator.Un.{Un}
 use Rattle.po_word.specs.declared.operator.Un.TheVariants.{Neg, Not}

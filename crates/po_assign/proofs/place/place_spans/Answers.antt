@@ -18,7 +18,8 @@ returns-in_default c =
     let d : Span = record { register = 0; start = 0; finish = 0 } in
     let s = slice_index_or xs p d in
     let rest = ap (λ ss. c.args.count + count_by (λ (t : Span). t.start == s.start) ss) (rest_whole xs p) in
-    crowded_turn c.args.count xs p c.loop-index.ends.items c.loop-index.regs.items d s _ c.loop-index-test.true refl c.loop-index.invariant busy
+    crowded_turn c.args.count xs p c.loop-index.ends.items c.loop-index.regs.items d s _ c.loop-index-test.true refl
+    c.loop-index.invariant busy
     (ap (λ k. c.args.count + k) c.starting_at.ensures ∙ rest)
 
 pub loop-index-preserved : goal.loop-index-preserved
@@ -27,8 +28,10 @@ loop-index-preserved c =
     let p = c.loop-index.index in
     let found = rw c.deref.ensures.value at c.in-Some.ensures in
     let d : Span = record { register = 0; start = 0; finish = 0 } in
-    placed_turn c.args.count xs p c.loop-index.ends.items c.loop-index.regs.items c.push.new.self.items d (slice_index_or xs p d) c.in-Some.free
+    placed_turn c.args.count xs p c.loop-index.ends.items c.loop-index.regs.items c.push.new.self.items d
+    (slice_index_or xs p d) c.in-Some.free
     c.loop-index-test.true refl c.loop-index.invariant found.0 found.1 found.2 c.in_ok-push.ensures.items
 
 pub returns : goal.returns
-returns c = last_turn c.args.count c.args.spans.now c.loop-index.index c.loop-index.ends.items c.loop-index.regs.items c.loop-index-test.false c.loop-index.invariant
+returns c = last_turn c.args.count c.args.spans.now c.loop-index.index c.loop-index.ends.items c.loop-index.regs.items
+    c.loop-index-test.false c.loop-index.invariant

@@ -7,4 +7,5 @@ use Rattle.po_assign.specs.Reads.{read_at}
 use Rattle.po_assign.proofs.reads.note_instr.Given as goal
 
 abbrev pub invariant-loop-t : goal.invariant-loop-t
-invariant-loop-t l = (v : ℕ) → cond (reads (moves_of (drop l.t-index l.xs)) (Reg (Virt v))) l.point (read_at l.last.items v) ≡ cond (reads (moves_of l.xs) (Reg (Virt v))) l.point (read_at l.fn.last.items v)
+invariant-loop-t l = (v : ℕ) → cond (reads (moves_of (drop l.t-index l.xs)) (Reg (Virt v))) l.point
+    (read_at l.last.items v) ≡ cond (reads (moves_of l.xs) (Reg (Virt v))) l.point (read_at l.fn.last.items v)

@@ -13,7 +13,13 @@ loop-block-preserved c =
     let same = c.deref.ensures.value in
     let count : c.len.result ≡ length is = c.len.ensures ∙ sym c.deref.ensures.len in
     record {
-      made = block_spans (read_at c.args.last.now) bs j b c.loop-block.first c.len.result is c.loop-block.spans.items c.push_block.new.spans.items _
+      made = block_spans (read_at c.args.last.now) bs j b c.loop-block.first c.len.result is c.loop-block.spans.items
+          c.push_block.new.spans.items _
           c.loop-block-test.true c.block-item.is same c.in_ok-push_block.ensures count c.loop-block.invariant.made;
-      number = omega (arith, count, block_count bs j b is c.loop-block-test.true c.block-item.is same, c.loop-block.invariant.number);
+      number = omega (
+        arith,
+        count,
+        block_count bs j b is c.loop-block-test.true c.block-item.is same,
+        c.loop-block.invariant.number,
+      );
     }

@@ -10,10 +10,13 @@ use Rattle.po_assign.proofs.Formed.{formed_few}
 use Rattle.po_assign.proofs.unit.assign.Goals as goal
 
 pub place_code-requires-clause-each : goal.place_code-requires-clause-each
-place_code-requires-clause-each c = rw c.deref.ensures.value (formed_few (code_of c.args.u.code) c.requires.code.form.formed)
+place_code-requires-clause-each c = rw c.deref.ensures.value
+    (formed_few (code_of c.args.u.code) c.requires.code.form.formed)
 
 pub returns-in-Ok-Given-clause-uncrowded : goal.returns-in-Ok-Given-clause-uncrowded
 returns-in-Ok-Given-clause-uncrowded c =
-    let told = subst (λ (p : Placing). Places c.len.result (intervals (all_of c.deref.result.now)) p) c.in-Ok-Given.field-0-is c.in-Ok-Given.ensures in
-    let at : IsUncrowded c.len.result (intervals (flat (code_of c.args.u.code))) = subst (λ (bs : List Block). IsUncrowded c.len.result (intervals (all_of bs))) c.deref.ensures.value told.0 in
+    let told = subst (λ (p : Placing). Places c.len.result (intervals (all_of c.deref.result.now)) p)
+    c.in-Ok-Given.field-0-is c.in-Ok-Given.ensures in
+    let at : IsUncrowded c.len.result (intervals (flat (code_of c.args.u.code))) =
+    subst (λ (bs : List Block). IsUncrowded c.len.result (intervals (all_of bs))) c.deref.ensures.value told.0 in
     subst (λ k. IsUncrowded k (intervals (flat (code_of c.args.u.code)))) c.len.ensures at

@@ -11,13 +11,17 @@ use Rattle.po_assign.proofs.unit.place_code.Goals as goal
 
 pub place_spans-requires-clause-short : goal.place_spans-requires-clause-short
 place_spans-requires-clause-short c =
-    rw (c.deref-2.ensures.value, c.in_ok-spans.ensures, c.deref.ensures.value) (spans_few (read_at c.in_ok-last.last.items) (all_of c.args.blocks.now) c.requires.short c.requires.each)
+    rw (c.deref-2.ensures.value, c.in_ok-spans.ensures, c.deref.ensures.value)
+    (spans_few (read_at c.in_ok-last.last.items) (all_of c.args.blocks.now) c.requires.short c.requires.each)
 
 pub place_spans-requires-clause-rising : goal.place_spans-requires-clause-rising
-place_spans-requires-clause-rising c = rw (c.deref-2.ensures.value, c.in_ok-spans.ensures, c.deref.ensures.value) (spans_rise (read_at c.in_ok-last.last.items) (all_of c.args.blocks.now))
+place_spans-requires-clause-rising c = rw (c.deref-2.ensures.value, c.in_ok-spans.ensures, c.deref.ensures.value)
+    (spans_rise (read_at c.in_ok-last.last.items) (all_of c.args.blocks.now))
 
 pub returns : goal.returns
 returns c =
     let seen : map interval_from c.deref-2.result.now ≡ intervals (all_of c.args.blocks.now) =
-    ap (λ (ss : List Span). map interval_from ss) (c.deref-2.ensures.value ∙ c.in_ok-spans.ensures ∙ ap (λ (last : List ℕ). spans_from (read_at last) 0 (all_of c.args.blocks.now)) c.deref.ensures.value) ∙ spans_are (read_at c.in_ok-last.last.items) (all_of c.args.blocks.now) c.in_ok-last.ensures in
+    ap (λ (ss : List Span). map interval_from ss) (c.deref-2.ensures.value ∙ c.in_ok-spans.ensures
+    ∙ ap (λ (last : List ℕ). spans_from (read_at last) 0 (all_of c.args.blocks.now)) c.deref.ensures.value)
+    ∙ spans_are (read_at c.in_ok-last.last.items) (all_of c.args.blocks.now) c.in_ok-last.ensures in
     subst (λ (is : List Interval). IfOk c.place_spans.result (Places c.args.count is)) seen c.place_spans.ensures

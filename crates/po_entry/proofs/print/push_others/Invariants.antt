@@ -8,5 +8,6 @@ use Rattle.po_entry.proofs.print.push_others.Given as goal
 -- what is printed so far, with what is still to come, is the whole
 abbrev pub invariant-loop-transfer : goal.invariant-loop-transfer
 invariant-loop-transfer l =
-    l.out.items ++ flat_map (λ text. codes " ; " ++ text) (map pat_move_text (pat_moves_of (drop l.transfer-index l.others)))
+    l.out.items ++ flat_map (λ text. codes " ; " ++ text)
+    (map pat_move_text (pat_moves_of (drop l.transfer-index l.others)))
     ≡ l.fn.out.items ++ flat_map (λ text. codes " ; " ++ text) (map pat_move_text (pat_moves_of l.others))

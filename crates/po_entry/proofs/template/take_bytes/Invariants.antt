@@ -6,5 +6,6 @@ use Rattle.po_entry.proofs.template.take_bytes.Given as goal
 abbrev pub invariant-bytes : goal.invariant-bytes
 invariant-bytes l = record {
   column : l.column ≡ l.fn.first + l.byte-index;
-  read : template_from l.operands l.column l.begun (drop l.byte-index l.bytes) ≡ template_from l.operands l.fn.first nothing_yet l.bytes;
+  read : template_from l.operands l.column l.begun (drop l.byte-index l.bytes) ≡ template_from l.operands l.fn.first
+      nothing_yet l.bytes;
 }

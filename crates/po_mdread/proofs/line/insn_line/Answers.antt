@@ -8,5 +8,6 @@ use Rattle.po_mdread.proofs.line.insn_line.Goals as goal
 -- one more entry
 pub returns-clause-entries : goal.returns-clause-entries
 returns-clause-entries c =
-    let more = All-append IsEntry c.args.machine.entries _ c.requires.entries (All-cons IsEntry c.in_ok-entry.entry [] c.in_ok-entry.ensures.allowed (All-nil IsEntry)) in
+    let more = All-append IsEntry c.args.machine.entries _ c.requires.entries
+    (All-cons IsEntry c.in_ok-entry.entry [] c.in_ok-entry.ensures.allowed (All-nil IsEntry)) in
     subst (λ (es : List Entry). All IsEntry es) (sym c.in_ok-push.ensures.ok) more

@@ -7,4 +7,5 @@ use Rattle.po_mdread.proofs.names.back.Goals as goal
 pub returns : goal.returns
 returns c =
     let few : c.min.result ≡ min c.args.count (length c.args.words.now) = omega (arith, c.min.ensures) in
-    rw (take_rest c.args.words.now c.min.result, few, drop_min c.args.count c.args.words.now) (sym (drop-map seen c.args.count c.args.words.now))
+    rw (take_rest c.args.words.now c.min.result, few, drop_min c.args.count c.args.words.now)
+    (sym (drop-map seen c.args.count c.args.words.now))

@@ -20,7 +20,9 @@ pub returns-in-Ended-clause-spot : goal.returns-in-Ended-clause-spot
 returns-in-Ended-clause-spot c =
     let lines : List Numbered = c.behind-lines.result.lines in
     let are : lines ≡ lines_behind start c.args.text.now = ap (λ (a : Ahead). a.lines) c.behind-lines.ensures in
-    let read : read_each step ToMachine lines ≡ Ok (Ended c.in-Ended.machine c.in-Ended.at) = c.in-Ok.ensures.gets ∙ ap Ok c.in-Ended.is in
-    let b = behind_end lines start c.args.text.now ToMachine c.in-Ended.machine c.in-Ended.at (omega arith) are refl read in
+    let read : read_each step ToMachine lines ≡ Ok (Ended c.in-Ended.machine c.in-Ended.at) = c.in-Ok.ensures.gets
+    ∙ ap Ok c.in-Ended.is in
+    let b = behind_end lines start c.args.text.now ToMachine c.in-Ended.machine c.in-Ended.at (omega arith) are refl
+    read in
     let counted = b.counted in
     record { within = b.within; counted = omega arith; front = b.front; cut = b.cut }

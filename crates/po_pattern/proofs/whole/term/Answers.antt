@@ -7,7 +7,10 @@ use Rattle.po_pattern.proofs.TermFacts.{term_is}
 use Rattle.po_pattern.proofs.whole.term.Goals as goal
 
 pub returns-clause-formed : goal.returns-clause-formed
-returns-clause-formed c = told IsKeptTerm c.in_ok-read.read (terms.term (rest_of c.args.cursor) c.args.seen) c.in_ok-read.ensures (term_is (rest_of c.args.cursor) c.args.seen)
+returns-clause-formed c = told IsKeptTerm c.in_ok-read.read (terms.term (rest_of c.args.cursor) c.args.seen)
+    c.in_ok-read.ensures (term_is (rest_of c.args.cursor) c.args.seen)
 
 pub returns-clause-shorter : goal.returns-clause-shorter
-returns-clause-shorter c = told_read (Below (left (rest_of c.args.cursor))) c.in_ok-read.read (terms.term (rest_of c.args.cursor) c.args.seen) c.in_ok-read.ensures (term_less (rest_of c.args.cursor) c.args.seen)
+returns-clause-shorter c = told_read (Below (left (rest_of c.args.cursor))) c.in_ok-read.read
+    (terms.term (rest_of c.args.cursor) c.args.seen) c.in_ok-read.ensures
+    (term_less (rest_of c.args.cursor) c.args.seen)

@@ -8,6 +8,8 @@ use Rattle.po_simplify.proofs.instr.simplified.Given as goal
 
 abbrev pub invariant-loop-t : goal.invariant-loop-t
 invariant-loop-t l =
-    (moves_of l.xs.items ++ (simple_moves words same_register (moves_of (into_iter_items l.t-iterator))).got ≡ (simple_moves words same_register (moves_of (into_iter_items l.initial.t-iterator))).got)
-    × (MovesHaveWords (moves_of (into_iter_items l.t-iterator)) → MovesHaveWords (moves_of (into_iter_items l.initial.t-iterator)))
+    (moves_of l.xs.items ++ (simple_moves words same_register (moves_of (into_iter_items l.t-iterator))).got
+    ≡ (simple_moves words same_register (moves_of (into_iter_items l.initial.t-iterator))).got)
+    × (MovesHaveWords (moves_of (into_iter_items l.t-iterator))
+    → MovesHaveWords (moves_of (into_iter_items l.initial.t-iterator)))
     × (into_iter_len l.t-iterator ≡ length (into_iter_items l.t-iterator))

@@ -7,4 +7,5 @@ use Rattle.po_simplify.proofs.PlusStages.{plus_is_staged}
 use Rattle.po_simplify.proofs.sums.add.Goals as goal
 
 pub returns : goal.returns
-returns c = c.in_ok-r.ensures ∙ sym (ap (λ (m : Met ℕ (Tree ℕ Place)). m.got) (plus_is_staged words same_register (tree_of c.args.a) (tree_of c.args.b)))
+returns c = c.in_ok-r.ensures ∙ sym (ap (λ (m : Met ℕ (Tree ℕ Place)). m.got)
+    (plus_is_staged words same_register (tree_of c.args.a) (tree_of c.args.b)))

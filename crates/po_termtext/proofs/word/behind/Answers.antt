@@ -4,4 +4,5 @@ use Rattle.po_termtext.proofs.Words.{behind_is}
 use Rattle.po_termtext.proofs.word.behind.Goals as goal
 
 pub returns : goal.returns
-returns c = behind_is c.args.mark.now c.args.text.now c.strip_prefix.result (strip_prefix_is Decides-eqb c.args.text.now c.args.mark.now c.strip_prefix.result c.strip_prefix.ensures.cases)
+returns c = behind_is c.args.mark.now c.args.text.now c.strip_prefix.result
+    (strip_prefix_is Decides-eqb c.args.text.now c.args.mark.now c.strip_prefix.result c.strip_prefix.ensures.cases)
