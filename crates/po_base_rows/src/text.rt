@@ -1,6 +1,6 @@
 use po_text::{
     Got, MemSink, MemSource, ReadRefusal, Sink, Source, Span, StdSink, StdSource, WriteFault,
-    read_all, read_number, split_line, write_all,
+    read_all, read_number, split_line, word_end, write_all,
 };
 use std::alloc::{AllocError, Global};
 use std::io;
@@ -161,6 +161,7 @@ fn words(rt: HostRuntime) -> Result<(), Fail> {
             );
         }
     }
+    assert_eq!(rt; word_end(b"ab\tc", 0), 2);
     Ok(())
 }
 

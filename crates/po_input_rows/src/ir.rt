@@ -14,7 +14,7 @@ const SUM: &str =
 const OTHERS: &str =
     "unit others\ncon -2147483648\ncon 2147483647\nsub\ncon -1\nmul\ndup\nand\ncon 2\nior\ncon 3\nxor\ncon 4\nshl\ncon 5\nshr\ncon 6\nsar\nneg\nnot\npop\nadl -1\ndup\nbeq a\nadl 1\ndup\nbne a\nadl 1\ndup\nblt a\nadl 1\ndup\nble a\nadl 1\ndup\nbgt a\nadl 1\ndup\nbltu a\nadl 1\ndup\nbgeu a\nlab a\njmp a\nend\n";
 
-const FAULTS: [(&str, u32, u32, Kind); 24] = [
+const FAULTS: [(&str, u32, u32, Kind); 39] = [
     ("unit f\ncon 1\nre\n", 33, 1, Kind::Word),
     ("unit f\nlab a\nlab a\n", 33, 5, Kind::Duplicate),
     ("unit f\nend\n", 32, 1, Kind::FallsOff),
@@ -70,6 +70,35 @@ const FAULTS: [(&str, u32, u32, Kind); 24] = [
     ("unit f\nend x\n", 32, 5, Kind::Word),
     // a label that is there already, before the value that is left
     ("unit f\nlab a\ncon 1\nlab a\n", 34, 5, Kind::Duplicate),
+    // 64 letters
+    (
+        "unit abcdefghabcdefghabcdefghabcdefghabcdefghabcdefghabcdefghabcdefgh\nend\n",
+        32,
+        1,
+        Kind::FallsOff,
+    ),
+    // each form that ends too early or has a wrong word
+    ("unit f\nconx 1\n", 32, 1, Kind::Word),
+    ("unit f\ncon\n", 32, 4, Kind::Word),
+    ("unit f\ncon 1 // x\n", 32, 7, Kind::Word),
+    ("unit f\nadl -2147483649\n", 32, 5, Kind::Number),
+    ("unit f\nadg a-b x\n", 32, 5, Kind::Word),
+    ("unit f\nlod x\n", 32, 5, Kind::Word),
+    ("unit f\nlab\n", 32, 4, Kind::Word),
+    ("unit f\ncall g\n", 32, 7, Kind::Word),
+    // the fourth word is the first that is wrong, whatever follows
+    ("unit f\ncall g 0 x y z\n", 32, 10, Kind::Word),
+    // the stack of the other forms
+    ("unit f\narg 0\n", 32, 1, Kind::StackUnderflow),
+    ("unit f\ncon 1\nbeq a\n", 33, 1, Kind::StackUnderflow),
+    (
+        "unit f\ncon 1\ndup\ndup\nbeq a\n",
+        35,
+        1,
+        Kind::StackAtBoundary,
+    ),
+    ("unit f\ncon 1\ncall g 0\n", 33, 1, Kind::StackAtBoundary),
+    ("unit f\ncon 1\ncon 2\nret\n", 34, 1, Kind::StackAtBoundary),
 ];
 
 /// The place and kind of the first fault; none also where the text is longer than 4,194,304 bytes.
@@ -144,6 +173,9 @@ fn many(alloc: Global, count: u32) -> Result<Vec<u8>, AllocError> {
 #[test]
 fn limits(rt: HostRuntime) -> Result<(), Fail> {
     let alloc = rt.alloc();
+    // 64 values, and then the text ends; 65 values
+    let deep = repeated(alloc, "unit f\n", "con 1\n", 64)?;
+    assert_eq!(rt; fault(alloc, &deep), at(96, 1, Kind::Word));
     let deep = repeated(alloc, "unit f\n", "con 1\n", 65)?;
     assert_eq!(rt; fault(alloc, &deep), at(96, 1, Kind::TooMany));
     let line = repeated(alloc, "//", "/", 4094)?;

@@ -18,7 +18,7 @@ use Rattle.po_ir.specs.declared.unit.Jump.{Jump}
 use Rattle.po_ir.specs.declared.unit.Key.{Key}
 use Rattle.po_ir.specs.declared.unit.Key.TheVariants as key
 use Rattle.po_ir.specs.declared.unit.Unit.{Unit as StackUnit}
-use Rattle.po_ir.specs.Keys.{key_text, bin_of, un_of, rel_of, plain_of, key_of_word}
+use Rattle.po_ir.specs.Keys.{key_text, key_of_word}
 use Rattle.po_ir.specs.Ops.{key_of, labels_of, target_in, ends_well}
 use Rattle.po_ir.specs.Lines.{second_column}
 use Rattle.po_ir.specs.Faults.{decided, misses, end_fault}
@@ -30,7 +30,7 @@ use Rattle.po_ir.proofs.Allowed.{label_of, labels_append, jump_labels}
 
 -- a key's word is that key's, not `end`, and begins no comment
 pub key_facts : (k : Key) → (key_of_word (key_text k) ≡ Some k) × (same (key_text k) (codes "end") ≡ false) × (starts_with nat_eq (key_text k) (codes "//") ≡ false)
-unfolding key_of_word plain_of bin_of un_of rel_of
+unfolding key_of_word
 key_facts key.Con = (refl, refl, refl)
 key_facts key.Adl = (refl, refl, refl)
 key_facts key.Adg = (refl, refl, refl)

@@ -1,12 +1,9 @@
 -- What one line does to what was read so far.
 use Rattle.std.proofs.Common.{◌≡◌, ℕ, ◌+◌, ◌≤◌, List, [], ◌∷◌, ◌++◌, Bool, true, false, Result, Ok, Err, Option, Some, None, refl, ap, sym, ◌∙◌, subst, map, length, arith, inl, inr}
-use Rattle.std.specs.Prelude.{codes, cond, nat_eq, nat_lt, ◌==◌, find, option_map}
+use Rattle.std.specs.Prelude.{codes, cond, nat_eq, nat_lt, ◌==◌, find}
 use Rattle.std.specs.List.{starts_with}
 use Rattle.std.specs.Cmp.Lexicographic.{same_text}
 use Rattle.std.proofs.lemmas.Bool.Decides.{nat_tests}
-use Rattle.po_word.specs.declared.operator.Bin.{Bin}
-use Rattle.po_word.specs.declared.operator.Un.{Un}
-use Rattle.po_word.specs.declared.operator.Rel.{Rel}
 use Rattle.po_name.specs.Names.{is_name}
 use Rattle.po_lines.specs.declared.fault.LineFault.{LineFault}
 use Rattle.po_lines.specs.Words.{Placed, line_words, words_in}
@@ -19,9 +16,8 @@ use Rattle.po_lines.proofs.Results.{chosen, bind_ok, ok_is, not_ok}
 use Rattle.po_ir.specs.declared.unit.Op.{Op}
 use Rattle.po_ir.specs.declared.unit.Jump.{Jump}
 use Rattle.po_ir.specs.declared.unit.Key.{Key}
-use Rattle.po_ir.specs.declared.unit.Key.TheVariants as key
 use Rattle.po_ir.specs.declared.unit.Unit.{Unit as StackUnit}
-use Rattle.po_ir.specs.Keys.{key_text, bin_text, un_text, rel_text, bins, uns, rels, plains, bin_of, un_of, rel_of, plain_of, or_else, key_of_word}
+use Rattle.po_ir.specs.Keys.{key_text, keys, key_of_word}
 use Rattle.po_ir.specs.Ops.{key_of, labels_of, ends_well}
 use Rattle.po_ir.specs.Lines.{op_in, second_column}
 use Rattle.po_ir.specs.Faults.{decided, misses, end_fault}
@@ -62,37 +58,9 @@ found_passes : {X : Type 0} (p : X → Bool) (xs : List X) (y : X) → find p xs
 found_passes p [] y e = cc
 found_passes p (x ∷ xs) y e = found_by p (p x) x y xs refl (found_passes p xs y) e
 
-plain_is : (w : List ℕ) (k : Key) → plain_of w ≡ Some k → w ≡ key_text k
-unfolding plain_of
-plain_is w k e = same_is w (key_text k) (found_passes (λ k. same w (key_text k)) plains k e)
-
-bin_is : (w : List ℕ) (o : Bin) → bin_of w ≡ Some o → w ≡ bin_text o
-unfolding bin_of
-bin_is w o e = same_is w (bin_text o) (found_passes (λ o. same w (bin_text o)) bins o e)
-
-un_is : (w : List ℕ) (o : Un) → un_of w ≡ Some o → w ≡ un_text o
-unfolding un_of
-un_is w o e = same_is w (un_text o) (found_passes (λ o. same w (un_text o)) uns o e)
-
-rel_is : (w : List ℕ) (r : Rel) → rel_of w ≡ Some r → w ≡ rel_text r
-unfolding rel_of
-rel_is w r e = same_is w (rel_text r) (found_passes (λ r. same w (rel_text r)) rels r e)
-
-either_is : (w : List ℕ) (a b : Option Key) (k : Key) → ((k : Key) → a ≡ Some k → w ≡ key_text k) → ((k : Key) → b ≡ Some k → w ≡ key_text k) → or_else a b ≡ Some k → w ≡ key_text k
-either_is w (Some x) b k f g e = f k e
-either_is w None b k f g e = g k e
-
-mapped_is : {X : Type 0} (w : List ℕ) (f : X → Key) (a : Option X) (k : Key) → ((x : X) → a ≡ Some x → w ≡ key_text (f x)) → option_map f a ≡ Some k → w ≡ key_text k
-mapped_is w f (Some x) k h e = let same : f x ≡ k = cc in subst (λ (q : Key). w ≡ key_text q) same (h x refl)
-mapped_is w f None k h e = cc
-
 key_is : (w : List ℕ) (k : Key) → key_of_word w ≡ Some k → w ≡ key_text k
 unfolding key_of_word
-key_is w k e =
-    let branch : (k : Key) → option_map key.Br (rel_of w) ≡ Some k → w ≡ key_text k = λ k. mapped_is w key.Br (rel_of w) k (rel_is w) in
-    let unary : (k : Key) → option_map key.Un (un_of w) ≡ Some k → w ≡ key_text k = λ k. mapped_is w key.Un (un_of w) k (un_is w) in
-    let binary : (k : Key) → option_map key.Bin (bin_of w) ≡ Some k → w ≡ key_text k = λ k. mapped_is w key.Bin (bin_of w) k (bin_is w) in
-    either_is w (plain_of w) _ k (plain_is w) (λ k. either_is w (option_map key.Bin (bin_of w)) _ k binary (λ k. either_is w (option_map key.Un (un_of w)) _ k unary branch)) e
+key_is w k e = same_is w (key_text k) (found_passes (λ k. same w (key_text k)) keys k e)
 
 pub not_none : {A : Type 0} {x : A} → ◌≡◌ {A = Option A} (Some x) None → ⊥
 not_none e = cc

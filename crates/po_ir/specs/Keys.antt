@@ -1,5 +1,5 @@
 -- The words that the lines inside a unit begin with.
-use Rattle.std.specs.Prelude.{ℕ, List, [], ◌∷◌, codes, Option, Some, None, find, option_map}
+use Rattle.std.specs.Prelude.{ℕ, List, [], ◌∷◌, codes, Option, find}
 use Rattle.po_word.specs.declared.operator.Bin.{Bin}
 use Rattle.po_word.specs.declared.operator.Bin.TheVariants as bin
 use Rattle.po_word.specs.declared.operator.Un.{Un}
@@ -56,43 +56,15 @@ key_text (key.Bin o) = bin_text o
 key_text (key.Un o) = un_text o
 key_text (key.Br r) = rel_text r
 
--- all operators of two values
-abbrev pub bins : List Bin
-bins = bin.Add ∷ bin.Sub ∷ bin.Mul ∷ bin.And ∷ bin.Or ∷ bin.Xor ∷ bin.Shl ∷ bin.Shr ∷ bin.Sar ∷ []
+-- all of them
+abbrev pub keys : List Key
+keys =
+    key.Con ∷ key.Adl ∷ key.Adg ∷ key.Lod ∷ key.Sto ∷ key.Dup ∷ key.Pop ∷ key.Lab ∷ key.Jmp ∷ key.Arg ∷ key.Call ∷ key.Ret
+    ∷ key.Bin bin.Add ∷ key.Bin bin.Sub ∷ key.Bin bin.Mul ∷ key.Bin bin.And ∷ key.Bin bin.Or ∷ key.Bin bin.Xor
+    ∷ key.Bin bin.Shl ∷ key.Bin bin.Shr ∷ key.Bin bin.Sar ∷ key.Un un.Neg ∷ key.Un un.Not
+    ∷ key.Br rel.Eq ∷ key.Br rel.Ne ∷ key.Br rel.Lt ∷ key.Br rel.Le ∷ key.Br rel.Gt ∷ key.Br rel.Ge
+    ∷ key.Br rel.Ltu ∷ key.Br rel.Geu ∷ []
 
--- the one whose word this is
-unfoldable pub bin_of : List ℕ → Option Bin
-bin_of w = find (λ o. same w (bin_text o)) bins
-
--- all operators of one value
-abbrev pub uns : List Un
-uns = un.Neg ∷ un.Not ∷ []
-
--- the one whose word this is
-unfoldable pub un_of : List ℕ → Option Un
-un_of w = find (λ o. same w (un_text o)) uns
-
--- all branches
-abbrev pub rels : List Rel
-rels = rel.Eq ∷ rel.Ne ∷ rel.Lt ∷ rel.Le ∷ rel.Gt ∷ rel.Ge ∷ rel.Ltu ∷ rel.Geu ∷ []
-
--- the one whose word this is
-unfoldable pub rel_of : List ℕ → Option Rel
-rel_of w = find (λ o. same w (rel_text o)) rels
-
--- those that are neither an operator nor a branch
-abbrev pub plains : List Key
-plains = key.Con ∷ key.Adl ∷ key.Adg ∷ key.Lod ∷ key.Sto ∷ key.Dup ∷ key.Pop ∷ key.Lab ∷ key.Jmp ∷ key.Arg ∷ key.Call ∷ key.Ret ∷ []
-
--- the one of them whose word this is
-unfoldable pub plain_of : List ℕ → Option Key
-plain_of w = find (λ k. same w (key_text k)) plains
-
--- the first of two that is there
-abbrev pub or_else : {A : Type 0} → Option A → Option A → Option A
-or_else (Some x) other = Some x
-or_else None other = other
-
--- what this word says, if a line inside a unit may begin with it
+-- the one whose word this is, if a line inside a unit may begin with it
 unfoldable pub key_of_word : List ℕ → Option Key
-key_of_word w = or_else (plain_of w) (or_else (option_map key.Bin (bin_of w)) (or_else (option_map key.Un (un_of w)) (option_map key.Br (rel_of w))))
+key_of_word w = find (λ k. same w (key_text k)) keys

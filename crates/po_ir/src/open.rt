@@ -1,13 +1,13 @@
 //! One more operation of a unit that has begun.
 
-ghost use Rattle.std.specs.Prelude.{◌≡◌, map, IfOk};
+ghost use Rattle.std.specs.Prelude.{◌≡◌, map, OnOk};
 ghost use Rattle.po_lines.specs.Faults.{Gives};
 ghost use Rattle.po_lines.specs.Words.{seen};
 ghost use Rattle.po_ir.specs.Reading as reading;
 
 use crate::begun::Begun;
 use crate::line::{operation, second_column};
-use crate::rules::{depth_after, fault_of, leaves, with_arg, with_jump, with_label};
+use crate::rules::{add_jump, add_label, depth_after, fault_of, leaves, set_arg};
 use crate::unit::{Key, Op};
 use po_lines::{LineError, Word, fault_at};
 use po_text::Kind;
@@ -15,11 +15,11 @@ use std::alloc::Global;
 
 /// One more operation, whose label stands at this place.
 #[tactic(auto, unfolding(crate::specs::Reading::with_op), using(crate::proofs::Prefix::depth_next, crate::proofs::Prefix::ends_next, crate::proofs::Prefix::labels_next, crate::proofs::Prefix::args_next))]
-fn with_op(alloc: Global, begun: Begun, line: u32, column: u32, op: Op) -> Result<Begun, LineError>
-    requires { reading.IsKept begun }
-    ensures gives { Gives reading.shown result (reading.with_op line column (reading.shown begun) op) }
-    ensures kept { IfOk result reading.IsKept }
-    ensures name { IfOk result (λ b. b.name ≡ begun.name) }
+fn add_op(alloc: Global, begun: &mut Begun, line: u32, column: u32, op: Op) -> Result<(), LineError>
+    requires { reading.IsKept begun.old }
+    ensures gives { Gives (λ _. reading.shown begun.new) result (reading.with_op line column (reading.shown begun.old) op) }
+    ensures kept { OnOk result (reading.IsKept begun.new) }
+    ensures name { OnOk result (begun.new.name ≡ begun.old.name) }
 {
     if let Some(fault) = fault_of(
         begun.depth,
@@ -30,50 +30,33 @@ fn with_op(alloc: Global, begun: Begun, line: u32, column: u32, op: Op) -> Resul
     ) {
         return Err(LineError::Fault(fault));
     }
-    let Begun {
-        name,
-        mut ops,
-        jumps,
-        labels,
-        args,
-        depth,
-        ended: _,
-    } = begun;
-    let labels = with_label(alloc, labels, &op)?;
-    let jumps = with_jump(alloc, jumps, &op, line, column)?;
-    let args = with_arg(alloc, args, &op)?;
-    let depth = depth_after(depth, &op);
-    let ended = leaves(&op);
-    ops.push(op)?;
-    Ok(Begun {
-        name,
-        ops,
-        jumps,
-        labels,
-        args,
-        depth,
-        ended,
-    })
+    add_label(alloc, &mut begun.labels, &op)?;
+    add_jump(alloc, &mut begun.jumps, &op, line, column)?;
+    set_arg(alloc, &mut begun.args, &op)?;
+    begun.depth = depth_after(begun.depth, &op);
+    begun.ended = leaves(&op);
+    begun.ops.push(op)?;
+    Ok(())
 }
 
 /// A line that begins with an operation's word.
 #[tactic(auto, unfolding(crate::specs::Reading::op_line))]
 pub fn op_line(
     alloc: Global,
-    begun: Begun,
+    begun: &mut Begun,
     key: Key,
     words: &[Word],
     line: u32,
     end: u32,
-) -> Result<Begun, LineError>
-    requires { reading.IsKept begun }
-    ensures gives { Gives reading.shown result (reading.op_line line (reading.shown begun) key (map seen words.now) end) }
-    ensures kept { IfOk result reading.IsKept }
-    ensures name { IfOk result (λ b. b.name ≡ begun.name) }
+) -> Result<(), LineError>
+    requires { reading.IsKept begun.old }
+    ensures gives { Gives (λ _. reading.shown begun.new) result (reading.op_line line (reading.shown begun.old) key (map seen words.now) end) }
+    ensures kept { OnOk result (reading.IsKept begun.new) }
+    ensures name { OnOk result (begun.new.name ≡ begun.old.name) }
 {
     if begun.ops.len() == 65536 {
         return Err(fault_at(1, Kind::TooMany));
     }
     let op = operation(alloc, key, words, end)?;
-    with_op(alloc, begun, line, second_column(words), op)
+    add_op(alloc, begun, line, second_column(words), op)
 }

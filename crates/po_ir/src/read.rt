@@ -1,12 +1,14 @@
 //! The units of a text: one line behind the other, and what was read so far as a value.
 
-ghost use Rattle.std.specs.Prelude.{◌≡◌, ◌≤◌, ◌+◌, ◌<◌, ◌^◌, ◌++◌, ◌∷◌, [], map, length, All, IfOk};
+ghost use Rattle.std.specs.Prelude.{◌≡◌, ◌≤◌, ◌+◌, ◌<◌, ◌^◌, ◌++◌, ◌∷◌, [], map, length, All, List, IfOk, IfSome, OnOk};
 ghost use Rattle.std.specs.Option.{option_map};
-ghost use Rattle.po_lines.specs.Faults.{Gets};
+ghost use Rattle.po_lines.specs.Faults.{Gets, at_line};
+ghost use Rattle.po_lines.specs.Forms as forms;
 ghost use Rattle.po_lines.specs.Lines.{line_of, lines_behind};
 ghost use Rattle.po_lines.specs.Reading.{read_each};
 ghost use Rattle.po_lines.specs.Words.{seen};
 ghost use Rattle.po_ir.specs.Grammar.{IsUnits};
+ghost use Rattle.po_ir.specs.Keys.{key_of_word};
 ghost use Rattle.po_ir.specs.Reading as reading;
 ghost use Rattle.po_ir.specs.Reading.{IsState, state_shown};
 ghost use Rattle.po_ir.specs.Units.{IsUnit, NamesDiffer};
@@ -19,9 +21,10 @@ use crate::state::State;
 use crate::unit::Unit;
 use crate::words::key;
 use po_lines::{
-    Line, Lines, Names, Word, end_column, ended_early, in_line, line_words, name_alone, no_more,
+    Line, Lines, Names, Word, end_column, ended_early, first_words, in_line, name_alone, no_more,
     refused, same_text, says_nothing,
 };
+use po_name::Name;
 use po_text::{Kind, Spot, TextRefusal};
 use sqlite_items::Items;
 use std::alloc::{AllocError, Global};
@@ -53,85 +56,88 @@ fn check_end(begun: &Begun, line: u32) -> Result<(), TextRefusal>
     }
 }
 
-/// The unit ends.
-#[tactic(auto, unfolding(crate::specs::Reading::closed), using(crate::proofs::Prefix::map_next, crate::proofs::Prefix::append_none))]
-fn close(begun: Begun, units: Items<Unit>, names: Names, line: u32) -> Result<State, TextRefusal>
-    requires kept { reading.IsKept begun }
-    requires names { names ≡ map reading.unit_name units ++ begun.name ∷ [] }
-    ensures gets { Gets state_shown result (reading.closed line units (reading.shown begun)) }
-    ensures kept { IfOk result IsState }
+/// No word stands behind the first one of a line.
+fn only_word(line: u32, rest: &[Word]) -> Result<(), TextRefusal>
+    ensures { Gets (λ _. tt) result (at_line line (forms.no_more (map seen rest.now))) }
 {
-    check_end(&begun, line)?;
-    let mut units = units;
-    let Begun { name, ops, .. } = begun;
-    stored(units.push(Unit { name, ops }))?;
-    Ok(State {
-        units,
-        names,
-        inside: None,
-    })
+    match no_more(rest) {
+        Ok(()) => Ok(()),
+        Err(fault) => Err(fault.in_line(line)),
+    }
 }
 
-/// A line inside a unit.
-#[tactic(auto, unfolding(crate::specs::Reading::inside_line, crate::specs::Reading::key_line))]
-fn inside_line(
+/// The unit inside ends.
+#[tactic(auto, unfolding(crate::specs::Reading::closed), using(crate::proofs::Prefix::map_next, crate::proofs::Prefix::append_none))]
+fn close(state: &mut State, line: u32) -> Result<(), TextRefusal>
+    requires { IsState state.old }
+    ensures gets { IfSome state.old.inside (λ begun. Gets (λ _. state_shown state.new) result (reading.closed line state.old.units (reading.shown begun))) }
+    ensures kept { OnOk result (IsState state.new) }
+{
+    let Some(begun) = state.inside.take() else {
+        return Ok(());
+    };
+    check_end(&begun, line)?;
+    let Begun { name, ops, .. } = begun;
+    stored(state.units.push(Unit { name, ops }))
+}
+
+/// A line inside a unit that doesn't begin with `end`.
+#[tactic(auto, unfolding(crate::specs::Reading::key_line))]
+fn key_line(
     alloc: Global,
-    begun: Begun,
-    units: Items<Unit>,
-    names: Names,
+    begun: &mut Begun,
     first: &Word,
     rest: &[Word],
     line: u32,
     end: u32,
-) -> Result<State, TextRefusal>
-    requires kept { reading.IsKept begun }
-    requires names { names ≡ map reading.unit_name units ++ begun.name ∷ [] }
-    ensures gets { Gets state_shown result (reading.inside_line line units (reading.shown begun) (seen first.now) (map seen rest.now) end) }
-    ensures kept { IfOk result IsState }
+) -> Result<(), TextRefusal>
+    requires { reading.IsKept begun.old }
+    ensures gets { (us : List Unit) → Gets (λ _. record { units = us; inside = Some (reading.shown begun.new) }) result (reading.key_line line us (reading.shown begun.old) (key_of_word first.now.bytes.now) (seen first.now) (map seen rest.now) end) }
+    ensures kept { OnOk result (reading.IsKept begun.new) }
+    ensures name { OnOk result (begun.new.name ≡ begun.old.name) }
 {
-    if same_text(first.bytes, b"end") {
-        in_line(line, no_more(rest))?;
-        return close(begun, units, names, line);
-    }
     let Some(key) = key(first.bytes) else {
         return Err(refused(line, first.column, Kind::Word));
     };
-    let begun = in_line(line, op_line(alloc, begun, key, rest, line, end))?;
-    Ok(State {
-        units,
-        names,
-        inside: Some(begun),
-    })
+    in_line(line, op_line(alloc, begun, key, rest, line, end))
 }
 
 /// A line between units.
 #[tactic(auto, unfolding(crate::specs::Reading::outside_line, crate::specs::Reading::begun_with))]
 fn outside_line(
     alloc: Global,
-    units: Items<Unit>,
-    names: Names,
+    state: &mut State,
     first: &Word,
     rest: &[Word],
     line: u32,
     end: u32,
-) -> Result<State, TextRefusal>
-    requires { names ≡ map reading.unit_name units }
-    ensures gets { Gets state_shown result (reading.outside_line line units (seen first.now) (map seen rest.now) end) }
-    ensures kept { IfOk result IsState }
+) -> Result<(), TextRefusal>
+    requires kept { IsState state.old }
+    requires outside { state.old.inside ≡ None }
+    ensures gets { Gets (λ _. state_shown state.new) result (reading.outside_line line state.old.units (seen first.now) (map seen rest.now) end) }
+    ensures kept { OnOk result (IsState state.new) }
 {
     if !same_text(first.bytes, b"unit") {
         return Err(refused(line, first.column, Kind::Word));
     }
-    if units.len() == 65536 {
+    if state.units.len() == 65536 {
         return Err(refused(line, 1, Kind::TooMany));
     }
     let name = in_line(line, name_alone(alloc, rest, end))?;
-    let mut names = names;
-    let added = stored(names.insert(alloc, name.bytes()))?;
+    let added = stored(state.names.insert(alloc, name.bytes()))?;
     if !added {
         return Err(refused(line, second_column(rest), Kind::Duplicate));
     }
-    let begun = Begun {
+    state.inside = Some(begin(alloc, name));
+    Ok(())
+}
+
+/// A unit that begins.
+fn begin(alloc: Global, name: Name) -> Begun
+    ensures shown { reading.shown result ≡ record { name = name; ops = []; jumps = [] } }
+    ensures kept { reading.IsKept result }
+{
+    Begun {
         name,
         ops: Items::new(alloc),
         jumps: Items::new(alloc),
@@ -139,36 +145,32 @@ fn outside_line(
         args: Items::new(alloc),
         depth: 0,
         ended: false,
-    };
-    Ok(State {
-        units,
-        names,
-        inside: Some(begun),
-    })
+    }
 }
 
 /// A line that says something.
-#[tactic(auto, unfolding(crate::specs::Reading::some_line))]
+#[tactic(auto, unfolding(crate::specs::Reading::some_line, crate::specs::Reading::inside_line))]
 fn some_line(
     alloc: Global,
-    state: State,
+    state: &mut State,
     first: &Word,
     rest: &[Word],
     line: u32,
     end: u32,
-) -> Result<State, TextRefusal>
-    requires { IsState state }
-    ensures gets { Gets state_shown result (reading.some_line line state.units (option_map reading.shown state.inside) (seen first.now) (map seen rest.now) end) }
-    ensures kept { IfOk result IsState }
+) -> Result<(), TextRefusal>
+    requires { IsState state.old }
+    ensures gets { Gets (λ _. state_shown state.new) result (reading.some_line line state.old.units (option_map reading.shown state.old.inside) (seen first.now) (map seen rest.now) end) }
+    ensures kept { OnOk result (IsState state.new) }
 {
-    let State {
-        units,
-        names,
-        inside,
-    } = state;
-    match inside {
-        None => outside_line(alloc, units, names, first, rest, line, end),
-        Some(begun) => inside_line(alloc, begun, units, names, first, rest, line, end),
+    match &mut state.inside {
+        None => outside_line(alloc, state, first, rest, line, end),
+        Some(begun) => {
+            if same_text(first.bytes, b"end") {
+                only_word(line, rest)?;
+                return close(state, line);
+            }
+            key_line(alloc, begun, first, rest, line, end)
+        }
     }
 }
 
@@ -176,40 +178,50 @@ fn some_line(
 #[tactic(auto, unfolding(crate::specs::Reading::words_line))]
 fn words_line(
     alloc: Global,
-    state: State,
+    state: &mut State,
     words: &[Word],
     line: u32,
     end: u32,
-) -> Result<State, TextRefusal>
-    requires { IsState state }
-    ensures gets { Gets state_shown result (reading.words_line line (state_shown state) (map seen words.now) end) }
-    ensures kept { IfOk result IsState }
+) -> Result<(), TextRefusal>
+    requires { IsState state.old }
+    ensures gets { Gets (λ _. state_shown state.new) result (reading.words_line line (state_shown state.old) (map seen words.now) end) }
+    ensures kept { OnOk result (IsState state.new) }
 {
     match words {
-        [] => Ok(state),
+        [] => Ok(()),
         [first, rest @ ..] => {
             if says_nothing(words) {
-                return Ok(state);
+                return Ok(());
             }
             some_line(alloc, state, first, rest, line, end)
         }
     }
 }
 
-/// One more line of the text.
+/// One more line of the text. No form has more than three words, so the first four tell all.
 #[tactic(auto, unfolding(crate::specs::Reading::step))]
-fn step(alloc: Global, state: State, line: &Line) -> Result<State, TextRefusal>
-    requires { IsState state }
-    ensures gets { Gets state_shown result (reading.step (state_shown state) (line_of line.now)) }
-    ensures kept { IfOk result IsState }
+fn step<'a>(
+    alloc: Global,
+    state: &mut State,
+    room: &mut [Word<'a>],
+    line: &Line<'a>,
+) -> Result<(), TextRefusal>
+    requires kept { IsState state.old }
+    requires four { length room.old ≡ 4 }
+    ensures gets { Gets (λ _. state_shown state.new) result (reading.step (state_shown state.old) (line_of line.now)) }
+    ensures kept { OnOk result (IsState state.new) }
 {
-    let words = in_line(line.number, line_words(alloc, line.bytes))?;
-    let end = end_column(line.bytes);
-    words_line(alloc, state, words.as_slice(), line.number, end)
+    match first_words(line.bytes, room) {
+        Ok(count) => {
+            let end = end_column(line.bytes);
+            words_line(alloc, state, &room[..count], line.number, end)
+        }
+        Err(fault) => Err(fault.in_line(line.number)),
+    }
 }
 
 /// The lines that are ahead, up to the end of the text.
-fn read_lines(alloc: Global, lines: &mut Lines) -> Result<State, TextRefusal>
+fn read_lines<'a>(alloc: Global, lines: &mut Lines<'a>) -> Result<State, TextRefusal>
     ensures gets { Gets state_shown result (read_each reading.step reading.nothing_yet lines.old.lines) }
     ensures number { IfOk result (λ _. lines.new.line ≡ lines.old.line + length lines.old.lines) }
 {
@@ -218,11 +230,15 @@ fn read_lines(alloc: Global, lines: &mut Lines) -> Result<State, TextRefusal>
         names: Names::new(alloc),
         inside: None,
     };
+    let mut room = [Word {
+        column: 1,
+        bytes: b"",
+    }; 4];
     'lines: while let Some(line) = lines.next_line() {
-        state = match step(alloc, state, &line) {
-            Ok(next) => next,
+        match step(alloc, &mut state, &mut room, &line) {
+            Ok(()) => {}
             Err(error) => return Err(error),
-        };
+        }
     }
     Ok(state)
 }

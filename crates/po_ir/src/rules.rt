@@ -1,6 +1,6 @@
 //! What an operation does to the stack, to the block and to the labels, and the fault that it decides.
 
-ghost use Rattle.std.specs.Prelude.{◌≡◌, ◌≤◌, ◌+◌, ◌++◌, false, IfOk, IfNone, find, nat_eq};
+ghost use Rattle.std.specs.Prelude.{◌≡◌, ◌≤◌, ◌+◌, ◌++◌, [], false, IfNone, OnOk, find, nat_eq};
 ghost use Rattle.std.specs.List.{list_any};
 ghost use Rattle.std.specs.Option.{option_copied};
 ghost use Rattle.po_ir.specs.Ops as ops;
@@ -117,61 +117,44 @@ pub fn fault_of(depth: u32, labels: &Names, args: &[u8], op: &Op, column: u32) -
     ensures new { IfNone result (faults.repeats labels.now op.now ≡ false) }
 {
     if repeats(labels, op) {
-        return Some(LineFault {
-            column,
-            kind: Kind::Duplicate,
-        });
+        return Some(LineFault::at(column, Kind::Duplicate));
     }
     if depth < pops(op) {
-        return Some(LineFault {
-            column: 1,
-            kind: Kind::StackUnderflow,
-        });
+        return Some(LineFault::at(1, Kind::StackUnderflow));
     }
     if depth_after(depth, op) > 64 {
-        return Some(LineFault {
-            column: 1,
-            kind: Kind::TooMany,
-        });
+        return Some(LineFault::at(1, Kind::TooMany));
     }
     if is_boundary(op) && pops(op) < depth {
-        return Some(LineFault {
-            column: 1,
-            kind: Kind::StackAtBoundary,
-        });
+        return Some(LineFault::at(1, Kind::StackAtBoundary));
     }
     if !has_args(args_wanted(op), args) {
-        return Some(LineFault {
-            column: 1,
-            kind: Kind::ArgMissing,
-        });
+        return Some(LineFault::at(1, Kind::ArgMissing));
     }
     None
 }
 
-/// The labels with that of the operation.
-pub fn with_label(alloc: Global, labels: Names, op: &Op) -> Result<Names, AllocError>
-    requires { faults.repeats labels op.now ≡ false }
-    ensures { IfOk result (λ new. new ≡ labels ++ ops.label_in op.now) }
+/// The label of the operation goes to those so far.
+pub fn add_label(alloc: Global, labels: &mut Names, op: &Op) -> Result<(), AllocError>
+    requires { faults.repeats labels.old op.now ≡ false }
+    ensures { OnOk result (labels.new ≡ labels.old ++ ops.label_in op.now) }
 {
-    let mut labels = labels;
     if let Op::Lab(label) = op {
         labels.insert(alloc, label.bytes())?;
     }
-    Ok(labels)
+    Ok(())
 }
 
-/// The jumps with that of the operation, whose label stands at this place.
-pub fn with_jump(
+/// The jump of the operation, whose label stands at this place, goes to those so far.
+pub fn add_jump(
     alloc: Global,
-    jumps: Items<Jump>,
+    jumps: &mut Items<Jump>,
     op: &Op,
     line: u32,
     column: u32,
-) -> Result<Items<Jump>, AllocError>
-    ensures { IfOk result (λ new. new ≡ jumps ++ reading.jumps_in line column op.now) }
+) -> Result<(), AllocError>
+    ensures { OnOk result (jumps.new ≡ jumps.old ++ reading.jumps_in line column op.now) }
 {
-    let mut jumps = jumps;
     match op {
         Op::Jmp(label) | Op::Br(_, label) => jumps.push(Jump {
             line,
@@ -180,21 +163,30 @@ pub fn with_jump(
         })?,
         _ => {}
     }
-    Ok(jumps)
+    Ok(())
 }
 
-/// The arguments that are set behind the operation in its block, or in the one that begins with it.
-pub fn with_arg(alloc: Global, args: Items<u8>, op: &Op) -> Result<Items<u8>, AllocError>
-    ensures { IfOk result (λ new. new ≡ ops.args_by args op.now) }
+/// The argument that the operation sets goes to those of its block; where a block ends or begins, none is set.
+pub fn set_arg(alloc: Global, args: &mut Items<u8>, op: &Op) -> Result<(), AllocError>
+    ensures { OnOk result (args.new ≡ ops.args_by args.old op.now) }
 {
     if is_boundary(op) {
-        return Ok(Items::new(alloc));
+        clear(alloc, args);
+        return Ok(());
     }
-    let mut args = args;
     if let Op::Arg(number) = op {
         args.push(*number)?;
     }
-    Ok(args)
+    Ok(())
+}
+
+/// No argument is set.
+fn clear(alloc: Global, args: &mut Items<u8>)
+    ensures { args.new ≡ [] }
+{
+    if !args.is_empty() {
+        *args = Items::new(alloc);
+    }
 }
 
 /// The first jump whose label isn't there.

@@ -11,26 +11,6 @@ use po_word::{Bin, Rel, Un};
 pub fn key(word: &[u8]) -> Option<Key>
     ensures { result ≡ keys.key_of_word word.now }
 {
-    if let Some(key) = plain(word) {
-        return Some(key);
-    }
-    if let Some(op) = binary(word) {
-        return Some(Key::Bin(op));
-    }
-    if let Some(op) = unary(word) {
-        return Some(Key::Un(op));
-    }
-    match branch(word) {
-        Some(rel) => Some(Key::Br(rel)),
-        None => None,
-    }
-}
-
-/// A word that is neither an operator nor a branch.
-#[tactic(auto, unfolding(crate::specs::Keys::plain_of))]
-fn plain(word: &[u8]) -> Option<Key>
-    ensures { result ≡ keys.plain_of word.now }
-{
     match word {
         b"con" => Some(Key::Con),
         b"adl" => Some(Key::Adl),
@@ -44,55 +24,25 @@ fn plain(word: &[u8]) -> Option<Key>
         b"arg" => Some(Key::Arg),
         b"call" => Some(Key::Call),
         b"ret" => Some(Key::Ret),
-        _ => None,
-    }
-}
-
-/// The operator of two values.
-#[tactic(auto, unfolding(crate::specs::Keys::bin_of))]
-fn binary(word: &[u8]) -> Option<Bin>
-    ensures { result ≡ keys.bin_of word.now }
-{
-    match word {
-        b"add" => Some(Bin::Add),
-        b"sub" => Some(Bin::Sub),
-        b"mul" => Some(Bin::Mul),
-        b"and" => Some(Bin::And),
-        b"ior" => Some(Bin::Or),
-        b"xor" => Some(Bin::Xor),
-        b"shl" => Some(Bin::Shl),
-        b"shr" => Some(Bin::Shr),
-        b"sar" => Some(Bin::Sar),
-        _ => None,
-    }
-}
-
-/// The operator of one value.
-#[tactic(auto, unfolding(crate::specs::Keys::un_of))]
-fn unary(word: &[u8]) -> Option<Un>
-    ensures { result ≡ keys.un_of word.now }
-{
-    match word {
-        b"neg" => Some(Un::Neg),
-        b"not" => Some(Un::Not),
-        _ => None,
-    }
-}
-
-/// The relation of a branch.
-#[tactic(auto, unfolding(crate::specs::Keys::rel_of))]
-fn branch(word: &[u8]) -> Option<Rel>
-    ensures { result ≡ keys.rel_of word.now }
-{
-    match word {
-        b"beq" => Some(Rel::Eq),
-        b"bne" => Some(Rel::Ne),
-        b"blt" => Some(Rel::Lt),
-        b"ble" => Some(Rel::Le),
-        b"bgt" => Some(Rel::Gt),
-        b"bge" => Some(Rel::Ge),
-        b"bltu" => Some(Rel::Ltu),
-        b"bgeu" => Some(Rel::Geu),
+        b"add" => Some(Key::Bin(Bin::Add)),
+        b"sub" => Some(Key::Bin(Bin::Sub)),
+        b"mul" => Some(Key::Bin(Bin::Mul)),
+        b"and" => Some(Key::Bin(Bin::And)),
+        b"ior" => Some(Key::Bin(Bin::Or)),
+        b"xor" => Some(Key::Bin(Bin::Xor)),
+        b"shl" => Some(Key::Bin(Bin::Shl)),
+        b"shr" => Some(Key::Bin(Bin::Shr)),
+        b"sar" => Some(Key::Bin(Bin::Sar)),
+        b"neg" => Some(Key::Un(Un::Neg)),
+        b"not" => Some(Key::Un(Un::Not)),
+        b"beq" => Some(Key::Br(Rel::Eq)),
+        b"bne" => Some(Key::Br(Rel::Ne)),
+        b"blt" => Some(Key::Br(Rel::Lt)),
+        b"ble" => Some(Key::Br(Rel::Le)),
+        b"bgt" => Some(Key::Br(Rel::Gt)),
+        b"bge" => Some(Key::Br(Rel::Ge)),
+        b"bltu" => Some(Key::Br(Rel::Ltu)),
+        b"bgeu" => Some(Key::Br(Rel::Geu)),
         _ => None,
     }
 }

@@ -1,8 +1,13 @@
+-- Names
 pub mod NameSet
+pub mod NameLaws
+-- Numbers
+pub mod NumberLaws
+-- Lines and their words
 pub mod LineCuts
 pub mod SpanBounds
-pub mod Results
-pub mod NumberLaws
-pub mod NameLaws
+pub mod FirstWords
 pub mod WordLaws
+-- Readers: results, and the turns of their loops
+pub mod Results
 pub mod Turns

@@ -1,5 +1,5 @@
 -- The first line of a text, and the lines behind it.
-use Rattle.std.proofs.Common.{◌≡◌, ℕ, ◌+◌, ◌-◌, ◌≤◌, ◌<◌, List, [], ◌∷◌, Bool, true, false, refl, ap, sym, ◌∙◌, subst, min, length, take, drop, arith}
+use Rattle.std.proofs.Common.{◌≡◌, ℕ, ◌+◌, ◌≤◌, ◌<◌, List, [], ◌∷◌, Bool, true, false, refl, ap, ◌∙◌, subst, min, length, take, drop, arith}
 use Rattle.std.specs.Prelude.{cond, nat_lt, ◌==◌}
 use Rattle.std.specs.List.{slice_split, onto_first, position, position_or_len}
 use Rattle.std.specs.Str.Lines.{strip_carriage_return}
@@ -9,7 +9,7 @@ use Rattle.std.proofs.lemmas.List.Folds.{length-prefix_len}
 use Rattle.std.proofs.Math.ListN.{drop_of_length-le}
 use Rattle.std.specs.Prelude.{not, Some, None}
 use Rattle.std.specs.Option.{unwrap_or}
-use Rattle.po_lines.specs.Lines.{Numbered, is_feed, lines_at, lines_from, line_until}
+use Rattle.po_lines.specs.Lines.{is_feed, lines_at, lines_from, line_until}
 
 whole_by : (b : Bool) (x : ℕ) (xs : List ℕ) → is_feed x ≡ b → (length xs ≤ position_or_len is_feed xs → slice_split is_feed xs ≡ xs ∷ [])
     → length (x ∷ xs) ≤ position_or_len is_feed (x ∷ xs) → slice_split is_feed (x ∷ xs) ≡ (x ∷ xs) ∷ []

@@ -1,9 +1,8 @@
 -- A name is read as itself, and what is read as a name is one.
-use Rattle.std.proofs.Common.{◌≡◌, ℕ, List, Bool, true, false, Result, Ok, Err, refl, sym, subst, ◌⊎◌, inl, inr}
+use Rattle.std.proofs.Common.{◌≡◌, ℕ, List, true, Ok, refl, inl, inr}
 use Rattle.po_name.specs.Names.{is_name}
-use Rattle.po_lines.specs.declared.fault.LineFault.{LineFault}
 use Rattle.po_lines.specs.Words.{Placed}
-use Rattle.po_lines.specs.Leaves.{is_name_text, name_in, keyword_in, same}
+use Rattle.po_lines.specs.Leaves.{is_name_text, name_in}
 use Rattle.po_lines.proofs.Results.{chosen, ok_is, not_ok}
 
 pub name_again : (w : Placed) → is_name w.bytes ≡ true → name_in w ≡ Ok w.bytes

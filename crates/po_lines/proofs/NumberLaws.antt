@@ -1,6 +1,6 @@
 -- A printed number is read as itself, and what is read as a number is one.
-use Rattle.std.proofs.Common.{◌≡◌, ℕ, suc, ◌+◌, ◌-◌, ◌≤◌, ◌<◌, ◌^◌, List, [], ◌∷◌, Bool, true, false, Result, Ok, Err, Option, Some, None, refl, ap, sym, ◌∙◌, subst, length, arith, rules, ◌⊎◌, inl, inr}
-use Rattle.std.specs.Prelude.{ℤ, pos, negsuc, neg_ℤ, ◌≤ℤ◌, int_le, nat_le, unsigned_abs, ◌==◌, ◌&&◌, cond}
+use Rattle.std.proofs.Common.{◌≡◌, ℕ, suc, ◌≤◌, ◌<◌, ◌^◌, List, [], ◌∷◌, Bool, true, false, Ok, Option, Some, None, refl, ap, ◌∙◌, subst, length, arith, rules, inl, inr}
+use Rattle.std.specs.Prelude.{ℤ, pos, negsuc, neg_ℤ, ◌≤ℤ◌, int_le, nat_le, ◌==◌, ◌&&◌}
 use Rattle.std.specs.Int.{w32}
 use Rattle.std.specs.Char.{is_ascii_digit}
 use Rattle.std.specs.List.{list_all}
@@ -10,13 +10,11 @@ use Rattle.std.proofs.lemmas.Bool.Decides.{nat_tests}
 use Rattle.std.proofs.lemmas.Int.{ints, of_z-to_z}
 use Rattle.std.proofs.lemmas.Str.Parse.{IsNumeralModel, numerals_by_weight}
 use Rattle.std.proofs.lemmas.Fmt.{digits_decimal, digits_value-decimal, length-decimal-le, decimal_is_IsNumeral}
-use Rattle.po_word.specs.Words.{signed, word_of}
-use Rattle.po_text.specs.Number.{digits_value, are_digits, natural_of, number_of}
-use Rattle.po_lines.specs.declared.fault.LineFault.{LineFault}
+use Rattle.po_word.specs.Words.{signed}
+use Rattle.po_text.specs.Number.{digits_value, natural_of, number_of}
 use Rattle.po_lines.specs.Words.{Placed}
-use Rattle.po_lines.specs.Faults.{◌>>=◌}
 use Rattle.po_lines.specs.Leaves.{bounded, number_in, word_number_in, signed_number_in, small_number_in}
-use Rattle.po_lines.proofs.Results.{chosen, bind_ok, ok_is, not_ok}
+use Rattle.po_lines.proofs.Results.{chosen, ok_is, not_ok}
 
 pub own : IsNumeralModel (λ ds. list_all is_ascii_digit ds ≡ true) digits_value
 own = numerals_by_weight _ (search rules) digits_value (search rules)

@@ -1,5 +1,5 @@
 -- The words of a line lie within it.
-use Rattle.std.proofs.Common.{◌≡◌, ℕ, zero, suc, ◌+◌, ◌≤◌, ◌<◌, List, [], ◌∷◌, length, get_or, arith}
+use Rattle.std.proofs.Common.{◌≡◌, ℕ, zero, suc, ◌≤◌, ◌<◌, List, [], ◌∷◌, length, get_or, arith}
 use Rattle.po_text.specs.Words.{AreWordsFrom}
 use Rattle.po_text.specs.declared.fault.Span.{Span}
 

@@ -4,7 +4,7 @@ use Rattle.po_text.specs.declared.fault.TextRefusal.{TextRefusal}
 use Rattle.po_text.specs.declared.fault.TextRefusal.TheVariants as refusal
 use Rattle.po_lines.specs.declared.line.Line.{Line}
 use Rattle.po_lines.specs.Lines.{Numbered, Ahead, line_of, Takes}
-use Rattle.po_lines.specs.Faults.{◌>>=◌, TextFault, text_fault, Refuses}
+use Rattle.po_lines.specs.Faults.{TextFault, text_fault, Refuses}
 use Rattle.po_lines.specs.Reading.{read_each}
 
 more_lines : {S : Type 0} (step : S → Numbered → Result S TextFault) (s t : S) (l : Numbered) (ls : List Numbered) (r : Result S TextFault)

@@ -27,6 +27,11 @@ abbrev pub Gives : {X Y : Type 0} → (X → Y) → Result X LineError → Resul
 Gives view (Ok x) read = read ≡ Ok (view x)
 Gives view (Err e) read = Fails e read
 
+-- the same of an answer that takes no memory: it is the value or the first fault
+abbrev pub Tells : {X Y : Type 0} → (X → Y) → Result X LineFault → Result Y LineFault → Type 0
+Tells view (Ok x) read = read ≡ Ok (view x)
+Tells view (Err f) read = read ≡ Err f
+
 -- a fault of a text
 pub record TextFault : Type 0 where
   pub line : ℕ

@@ -1,5 +1,5 @@
 -- A text is read line by line; the first fault stays.
-use Rattle.std.specs.Prelude.{List, [], ◌∷◌, Result, Ok, Err}
+use Rattle.std.specs.Prelude.{List, [], ◌∷◌, Result, Ok}
 use Rattle.po_lines.specs.Lines.{Numbered}
 use Rattle.po_lines.specs.Faults.{◌>>=◌, TextFault}
 

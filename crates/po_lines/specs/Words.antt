@@ -5,7 +5,7 @@ use Rattle.po_text.specs.declared.fault.Span.{Span}
 use Rattle.po_text.specs.declared.fault.Kind.TheVariants as kind
 use Rattle.po_lines.specs.declared.word.Word.{Word}
 use Rattle.po_lines.specs.declared.fault.LineFault.{LineFault}
-use Rattle.po_lines.specs.Faults.{fault}
+use Rattle.po_lines.specs.Faults.{◌>>=◌, fault}
 
 -- a word without where it lies in memory
 pub record Placed : Type 0 where
@@ -26,3 +26,9 @@ words_in line = map (word_at line) (words_of line)
 -- the words of a line, which has at most 4096 bytes
 unfoldable pub line_words : List ℕ → Result (List Placed) LineFault
 line_words line = if nat_lt 4096 (length line) then Err (fault 4097 kind.TooMany) else Ok (words_in line)
+
+-- the first words of a line, so many at most
+unfoldable pub first_words : ℕ → List ℕ → Result (List Placed) LineFault
+first_words most line = do
+  ws ← line_words line
+  Ok (take most ws)

@@ -23,6 +23,30 @@ pub enum LineError {
     Memory,
 }
 
+impl LineFault {
+    /// A fault of a line at this column.
+    pub fn at(column: u32, kind: Kind) -> LineFault
+        ensures { result ≡ fault column kind }
+    {
+        LineFault { column, kind }
+    }
+
+    /// The refusal of a text whose first fault this is, in the line with this number, counted from 1.
+    pub fn in_line(self, line: u32) -> TextRefusal
+        ensures { result ≡ TextRefusal.BadText line self.column self.kind }
+    {
+        refused(line, self.column, self.kind)
+    }
+}
+
+impl From<LineFault> for LineError {
+    ghost from_gives = { λ found error. error ≡ Fault found };
+
+    fn from(fault: LineFault) -> LineError {
+        LineError::Fault(fault)
+    }
+}
+
 impl From<AllocError> for LineError {
     ghost from_gives = { λ _ error. error ≡ Memory };
 
@@ -59,7 +83,7 @@ impl From<po_word::OutOfMemory> for LineError {
 pub fn fault_at(column: u32, kind: Kind) -> LineError
     ensures { result ≡ Fault (fault column kind) }
 {
-    LineError::Fault(LineFault { column, kind })
+    LineError::Fault(LineFault::at(column, kind))
 }
 
 /// The refusal of a text whose first fault is at this line and column, both counted from 1.
@@ -76,6 +100,6 @@ pub fn in_line<T: Drop>(line: u32, read: Result<T, LineError>) -> Result<T, Text
     match read {
         Ok(value) => Ok(value),
         Err(LineError::Memory) => Err(TextRefusal::OutOfMemory),
-        Err(LineError::Fault(fault)) => Err(refused(line, fault.column, fault.kind)),
+        Err(LineError::Fault(fault)) => Err(fault.in_line(line)),
     }
 }

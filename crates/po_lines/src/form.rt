@@ -2,12 +2,12 @@
 //! that ends too early is Word; a further word is Word at its first byte.
 
 ghost use Rattle.std.specs.Prelude.{◌≡◌, ◌+◌, ◌≤◌, length, map};
-ghost use Rattle.po_lines.specs.Faults.{Gives};
+ghost use Rattle.po_lines.specs.Faults.{Gives, Tells};
 ghost use Rattle.po_lines.specs.Forms as forms;
 ghost use Rattle.po_lines.specs.Leaves.{keyword_in, same};
 ghost use Rattle.po_lines.specs.Words.{seen};
 
-use crate::fault::{LineError, fault_at};
+use crate::fault::{LineError, LineFault};
 use crate::named::name;
 use crate::numbers::word_number;
 use crate::word::Word;
@@ -24,13 +24,13 @@ pub fn same_text(text: &[u8], other: &[u8]) -> bool
 
 /// The word has to be this keyword; any other is Word at its first byte.
 #[tactic(auto, unfolding(crate::specs::Leaves::keyword_in))]
-pub fn keyword(word: &Word, text: &[u8]) -> Result<(), LineError>
-    ensures { Gives (λ _. tt) result (keyword_in text.now (seen word.now)) }
+pub fn keyword(word: &Word, text: &[u8]) -> Result<(), LineFault>
+    ensures { Tells (λ _. tt) result (keyword_in text.now (seen word.now)) }
 {
     if same_text(word.bytes, text) {
         Ok(())
     } else {
-        Err(fault_at(word.column, Kind::Word))
+        Err(LineFault::at(word.column, Kind::Word))
     }
 }
 
@@ -55,22 +55,22 @@ pub fn end_column(line: &[u8]) -> u32
 
 /// No further word; one that is there is Word at its first byte (docs/LANGUAGE.md, "Lines").
 #[tactic(auto, unfolding(crate::specs::Forms::no_more))]
-pub fn no_more(words: &[Word]) -> Result<(), LineError>
-    ensures { Gives (λ _. tt) result (forms.no_more (map seen words.now)) }
+pub fn no_more(words: &[Word]) -> Result<(), LineFault>
+    ensures { Tells (λ _. tt) result (forms.no_more (map seen words.now)) }
 {
     match words {
         [] => Ok(()),
-        [first, ..] => Err(fault_at(first.column, Kind::Word)),
+        [first, ..] => Err(LineFault::at(first.column, Kind::Word)),
     }
 }
 
 /// The first word; where there is none, the fault is Word at the column `end` (docs/LANGUAGE.md, "Lines").
 #[tactic(auto, unfolding(crate::specs::Forms::first_word))]
-pub fn first_word<'a>(words: &[Word<'a>], end: u32) -> Result<Word<'a>, LineError>
-    ensures { Gives seen result (forms.first_word (map seen words.now) end) }
+pub fn first_word<'a>(words: &[Word<'a>], end: u32) -> Result<Word<'a>, LineFault>
+    ensures { Tells seen result (forms.first_word (map seen words.now) end) }
 {
     match words {
-        [] => Err(fault_at(end, Kind::Word)),
+        [] => Err(LineFault::at(end, Kind::Word)),
         [first, ..] => Ok(*first),
     }
 }
@@ -101,8 +101,8 @@ pub fn name_alone(alloc: Global, words: &[Word], end: u32) -> Result<Name, LineE
 /// One number of a machine word, and no further word. A missing number is Word at the column `end`, a further word is
 /// Word at its first byte, and a word that is no such number has the fault of `word_number`.
 #[tactic(auto, unfolding(crate::specs::Forms::word_number_alone))]
-pub fn word_number_alone(words: &[Word], end: u32) -> Result<u32, LineError>
-    ensures { Gives (λ n. n) result (forms.word_number_alone (map seen words.now) end) }
+pub fn word_number_alone(words: &[Word], end: u32) -> Result<u32, LineFault>
+    ensures { Tells (λ n. n) result (forms.word_number_alone (map seen words.now) end) }
 {
     let word = first_word(words, end)?;
     let number = word_number(&word)?;

@@ -6,6 +6,7 @@
 #![tactic(auto)]
 
 mod fault;
+mod few;
 mod form;
 mod line;
 mod lines;
@@ -16,6 +17,7 @@ mod split;
 mod word;
 
 pub use fault::{LineError, LineFault, fault_at, in_line, refused};
+pub use few::first_words;
 pub use form::{
     end_column, first_word, keyword, name_alone, no_more, rest_words, same_text, says_nothing,
     word_number_alone,
@@ -24,6 +26,6 @@ pub use line::Line;
 pub use lines::{Lines, ended_early};
 pub use named::name;
 pub use names::Names;
-pub use numbers::{number_between, signed_number, small_number, word_number};
+pub use numbers::{signed_number, small_number};
 pub use split::line_words;
 pub use word::Word;

@@ -29,7 +29,7 @@ pub fn line_words<'a>(alloc: Global, line: &'a [u8]) -> Result<Vec<Word<'a>>, Li
 }
 
 /// The word at a place of a line.
-fn word_at(line: &[u8], span: Span) -> Word
+pub fn word_at(line: &[u8], span: Span) -> Word
     requires order { span.start < span.end }
     requires within { span.end ≤ length line.now }
     requires short { length line.now ≤ 4096 }

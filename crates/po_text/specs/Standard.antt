@@ -6,8 +6,14 @@ use Rattle.po_text.specs.declared.source.Got.TheVariants as got
 use Rattle.po_text.specs.declared.sink.Put.{Put}
 use Rattle.po_text.specs.declared.sink.Put.TheVariants as put
 
--- the bytes that the reader will give, or that the writer holds, where that is known, and the count of faults
-pub record Standard : Type 0 where
+-- a source: the bytes that the reader will give, where that is known, how often it failed and how often it was called
+pub record StandardSource : Type 0 where
+  pub known : Option (List ℕ)
+  pub faults : ℕ
+  pub calls : ℕ
+
+-- a sink: the bytes that the writer holds, where that is known, and how often it failed
+pub record StandardSink : Type 0 where
   pub known : Option (List ℕ)
   pub faults : ℕ
 

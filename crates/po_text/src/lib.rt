@@ -19,4 +19,4 @@ pub use number::read_number;
 pub use sink::{Put, Sink, write_all};
 pub use source::{Got, Source, read_all};
 pub use standard::{StdSink, StdSource};
-pub use words::split_line;
+pub use words::{split_line, word_end};

@@ -1,8 +1,9 @@
 //! Where bytes come from. A source says by `left` which bytes are still to come, where it tells, and by `faults` how
-//! often it has failed. No call changes whether `left` is told, and the count rises at a fault and at nothing else.
+//! often it has failed. No call changes whether `left` is told, and the count rises at a fault and at nothing else. By
+//! `calls` it says how often it was called.
 
 ghost use Rattle.std.specs.Prelude.{◌≡◌, ℕ, ◌+◌, ◌-◌, ◌<◌, ◌≤◌, ◌^◌, [], List, Option, length, take, IfOk, IfErr, IfSome};
-ghost use Rattle.po_text.specs.Causes.{before_known};
+ghost use Rattle.po_text.specs.Causes.{Counts, before_known};
 ghost use Rattle.po_text.specs.Source.{Reads, GotCause, ReadCause, OnBreakOff, OnTooLong};
 ghost use Rattle.po_text.specs.Place.{place_behind, place_from};
 
@@ -28,20 +29,24 @@ pub trait Source {
     /// How often the source has failed. The count never falls.
     ghost faults: { Self → ℕ };
 
+    /// How often the source was called. The count rises by one at each call, or stands at 2^64-1.
+    ghost calls: { Self → ℕ };
+
     /// Hands over the next bytes, into a buffer that isn't empty. `Count(n)`: the first n bytes of the buffer are the
     /// next n of `left`, which then is the rest. `End`: `left` is empty, where it is told. `Failed`: `faults` rose, or
     /// stands at 2^64-1, and `left` is as before. `Count` and `End` leave `faults` as it was.
     fn read(&mut self, buf: &mut [u8]) -> Got
         requires { 0 < length buf.old }
         ensures bytes { Reads (left self.old) (left self.new) result buf.new }
-        ensures cause { GotCause (faults self.old) (faults self.new) result };
+        ensures cause { GotCause (faults self.old) (faults self.new) result }
+        ensures counted { Counts (calls self.old) (calls self.new) };
 }
 
 #[tactic(auto, using(crate::proofs::Known::before_two))]
 /// All bytes up to the end, of which there may be `limit`, a number below 2^32 - 1. `ReadFault` comes exactly where
 /// the source's faults rose, and `TooLong` exactly where more than `limit` bytes came, with the line and the column,
-/// both counted from 1, of the first byte past them; a line ends at its line feed. Each turn takes at least one byte,
-/// so there are at most `limit` + 2 calls of the source.
+/// both counted from 1, of the first byte past them; a line ends at its line feed. There are at most `limit` + 1 calls of
+/// the source, since each but the last takes a byte.
 pub fn read_all<S: Source>(
     alloc: Global,
     source: &mut S,
@@ -54,6 +59,7 @@ pub fn read_all<S: Source>(
     ensures too_long { OnTooLong result limit (S.left source.old) (S.left source.new) }
     ensures broken_off { OnBreakOff result limit (S.left source.old) (S.left source.new) }
     ensures cause { ReadCause (S.faults source.old) (S.faults source.new) result }
+    ensures calls { S.calls source.new ≤ S.calls source.old + limit + 1 }
 {
     let mut bytes = Vec::new(alloc);
     let mut buf = [0u8; 4096];

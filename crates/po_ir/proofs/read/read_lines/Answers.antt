@@ -11,7 +11,7 @@ returns-in-Err-clause-gets c =
 pub lines-preserved : goal.lines-preserved
 lines-preserved c = record {
   kept = c.in-Ok.ensures.kept;
-  read = read_on step (state_shown c.lines.state) (state_shown c.in-Ok.next) c.lines.lines c.next_line.new.self c.in-Some.line _ c.in-Some.ensures c.in-Ok.ensures.gets c.lines.invariant.read;
+  read = read_on step (state_shown c.lines.state) (state_shown c.step.new.state) c.lines.lines c.next_line.new.self c.in-Some.line _ c.in-Some.ensures c.in-Ok.ensures.gets c.lines.invariant.read;
   count = counts_on c.lines.lines c.next_line.new.self c.in-Some.line _ c.in-Some.ensures c.lines.invariant.count;
 }
 

@@ -1,6 +1,4 @@
-use Rattle.std.proofs.Common.{length, ◌<◌, ◌≡◌, ap, List}
-use Rattle.po_text.specs.declared.fault.Span.{Span}
-use Rattle.po_lines.proofs.SpanBounds.{IsWithin, within_deref}
+use Rattle.po_lines.proofs.SpanBounds.{within_deref}
 use Rattle.po_lines.proofs.split.line_words.Goals as goal
 
 pub word_at-requires-clause-order : goal.word_at-requires-clause-order

@@ -1,8 +1,8 @@
-use Rattle.std.proofs.Common.{◌≡◌, ℕ, ◌+◌, ◌-◌, ◌<◌, ◌∙◌, sym, ap, List, take, drop, length, min, arith, refl}
+use Rattle.std.proofs.Common.{◌≡◌, ℕ, ◌+◌, ◌<◌, ◌∙◌, sym, ap, List, length, min, arith, refl}
 use Rattle.std.proofs.lemmas.Bool.Decides.{nat_tests}
 use Rattle.std.specs.List.{position_or_len}
 use Rattle.std.proofs.lemmas.List.{take_rest}
-use Rattle.po_lines.specs.Lines.{Ahead, Numbered, is_feed, lines_from}
+use Rattle.po_lines.specs.Lines.{Ahead, Numbered, is_feed}
 use Rattle.po_lines.proofs.LineCuts.{ended, feed_is, first_line_is}
 use Rattle.po_lines.proofs.lines.Lines.next_line.Goals as goal
 
