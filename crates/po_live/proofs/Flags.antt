@@ -11,12 +11,12 @@ use Rattle.po_term.specs.Tree.{Tree, Const, Leaf, Read, Unary, Binary}
 use Rattle.po_term.specs.Terms.{Place, InReg, AtSym}
 use Rattle.po_term.specs.Moves.{instr_of, instrs_of, PlainInstr}
 use Rattle.po_model.specs.declared.code.Block.{Block}
-use Rattle.po_model.specs.declared.pair.Live.{Live}
+use Rattle.po_live.specs.declared.sets.LiveVars.{LiveVars}
 use Rattle.po_model.specs.declared.var.Var.{Var}
 use Rattle.po_model.specs.declared.var.Var.TheVariants.{Cc}
 use Rattle.po_model.specs.Blocks.{PlainBlock, block_of, instrs_at, leads}
 use Rattle.po_model.specs.LiveAfter.{term_reads, reads, sets, IsRead, LiveAfter}
-use Rattle.po_model.specs.LiveSets.{holds_at}
+use Rattle.po_live.specs.Sets.{holds_at}
 use Rattle.po_live.specs.Sets.{back, nothing}
 use Rattle.po_live.specs.Flags.{cc_before, cc_after, flag_at, flags_at}
 use Rattle.po_live.proofs.Graphs.{instrs_there}
@@ -56,13 +56,13 @@ dead_at_ends code e b xs = (λ h. reached code (λ c. nothing) (λ c v f. absurd
     closed : (c q : ℕ) → leads code c q ≡ true → back (instrs_at code q) nothing Cc ≡ true → nothing Cc ≡ true
     closed c q l h = absurd (true≢false (sym h ∙ none_first code e q))
 
-flag_held : (sets : List Live) (b : ℕ) → flag_at (map (λ l. l.cc) sets) b ≡ holds_at sets b Cc
+flag_held : (sets : List LiveVars) (b : ℕ) → flag_at (map (λ l. l.cc) sets) b ≡ holds_at sets b Cc
 flag_held [] b = refl
 flag_held (x ∷ xs) zero = refl
 flag_held (x ∷ xs) (suc b) = flag_held xs b
 
 -- the flags of sets are live where the sets are
-pub flags_read : (code : List PlainBlock) (sets : List Live) (flags : List Bool) → flags ≡ map (λ l. l.cc) sets
+pub flags_read : (code : List PlainBlock) (sets : List LiveVars) (flags : List Bool) → flags ≡ map (λ l. l.cc) sets
     → ((b : ℕ) (xs : List PlainInstr) (q : Var) → (back xs (holds_at sets b) q ≡ true) ↔ IsRead code q (record { block = b; rest = xs }))
     → (b : ℕ) (xs : List PlainInstr) → (cc_before xs (flag_at flags b) ≡ true) ↔ IsRead code Cc (record { block = b; rest = xs })
 flags_read code sets flags e r b xs = rw same (r b xs Cc)

@@ -1,5 +1,5 @@
 -- The block of a label is there, and an exit leads where the control transfer does.
-use Rattle.std.proofs.Common.{◌≡◌, ℕ, zero, suc, ◌+◌, ◌-◌, ◌<◌, ◌≤◌, Bool, true, false, List, [], ◌∷◌, ◌++◌, length, map, take, drop, refl, sym, ap, arith, slice_index_or, ◌∙◌, length-append}
+use Rattle.std.proofs.Common.{◌≡◌, ℕ, zero, suc, ◌+◌, ◌<◌, ◌≤◌, Bool, true, false, List, [], ◌∷◌, ◌++◌, length, map, take, drop, refl, sym, ap, arith, slice_index_or, ◌∙◌}
 use Rattle.std.specs.Prelude.{◌||◌, ◌&&◌, ◌==◌, nat_lt, if◌then◌else◌, Option, Some, None}
 use Rattle.std.specs.Global.{Vec}
 use Rattle.std.proofs.lemmas.Bool.{true≢false, false≢true, eqb-true}
@@ -13,8 +13,8 @@ use Rattle.po_term.specs.declared.term.Sym.{Sym}
 use Rattle.po_term.specs.Terms.{Place}
 use Rattle.po_term.specs.Moves.{Ending, GoTo, IfCc, IfTwo, CallOf, Return, instrs_of}
 use Rattle.po_model.specs.declared.code.Block.{Block}
-use Rattle.po_model.specs.Blocks.{PlainBlock, block_of, block_ending, instrs_at, block_from, block_with, target_by, goes_on, has_label, is_at, ending_at, target_at, next_at, leads}
-use Rattle.po_live.specs.Flow.{exit_by, exit_target, exit_goes_on, exit_next, exit_leads, pred_at}
+use Rattle.po_model.specs.Blocks.{PlainBlock, block_of, block_ending, instrs_at, block_from, block_with, target_by, goes_on, has_label, ending_at, leads}
+use Rattle.po_live.specs.Flow.{exit_by, exit_target, exit_goes_on, exit_leads, pred_at}
 
 -- a slice of a vector, written back whole
 pub written_back : {A : Type 0} (xs ys : List A) (n : ℕ) → n ≡ length xs → length ys ≤ n → take n (xs ++ drop (length xs) ys) ≡ xs

@@ -4,20 +4,20 @@ use Rattle.std.specs.Prelude.{not, ◌||◌, ◌&&◌, ◌↔◌, IsTrue}
 use Rattle.std.specs.Global.{Vec}
 use Rattle.std.proofs.lemmas.List.{reverse-append, length-map}
 use Rattle.po_model.specs.declared.code.Block.{Block}
-use Rattle.std.proofs.lemmas.Bool.{true≢false, false≢true, or_cases}
+use Rattle.std.proofs.lemmas.Bool.{or_cases}
 use mathlib.Core.Logic.{◌⊎◌, inl, inr}
-use Rattle.po_term.specs.declared.term.Reg.{Reg as Register}
 use Rattle.po_term.specs.declared.term.Reg.TheVariants.{Fp}
 use Rattle.po_term.specs.declared.transfer.Instr.{Instr}
 use Rattle.po_term.specs.Moves.{instr_of, instrs_of, PlainInstr}
 use Rattle.std.proofs.Common.{drop-cons}
 use Rattle.po_model.specs.declared.pair.Live.{Live}
 use Rattle.po_model.specs.declared.var.Var.{Var}
-use Rattle.po_model.specs.declared.var.Var.TheVariants.{Reg, Cc}
+use Rattle.po_model.specs.declared.var.Var.TheVariants.{Reg}
 use Rattle.po_model.specs.Blocks.{PlainBlock, block_of, instrs_at}
 use Rattle.po_model.specs.LiveAfter.{reads, sets, IsRead, IsLive, LiveAfter}
-use Rattle.po_model.specs.LiveSets.{holds, holds_at, lives_at}
-use Rattle.po_live.specs.Sets.{is_fp, back, AreAfter}
+use Rattle.po_model.specs.LiveSets.{holds as in_set, holds_at as in_set_at, lives_at}
+use Rattle.po_live.specs.declared.sets.LiveVars.{LiveVars}
+use Rattle.po_live.specs.Sets.{is_fp, back, AreAfter, holds, holds_at}
 use mathlib.Core.Path.{fun_ext}
 use Rattle.po_live.proofs.Graphs.{instrs_there}
 use Rattle.po_live.proofs.Outs.{set_at}
@@ -30,7 +30,7 @@ after_length [] live (l ∷ ls) a = absurd a
 after_length (x ∷ xs) live [] a = absurd a
 after_length (x ∷ xs) live (l ∷ ls) a = ap suc (after_length xs live ls a.1)
 
-pub after_at : (xs : List PlainInstr) (live : Var → Bool) (ls : List Live) → AreAfter xs live ls → (i : ℕ) (v : Var) → i < length xs → holds_at ls i v ≡ (is_fp v || back (drop (suc i) xs) live v)
+pub after_at : (xs : List PlainInstr) (live : Var → Bool) (ls : List Live) → AreAfter xs live ls → (i : ℕ) (v : Var) → i < length xs → in_set_at ls i v ≡ (is_fp v || back (drop (suc i) xs) live v)
 after_at [] live ls a i v h = absurd (omega arith)
 after_at (x ∷ xs) live [] a i v h = absurd a
 after_at (x ∷ xs) live (l ∷ ls) a zero v h = a.0 v
@@ -95,21 +95,21 @@ there_below (x ∷ xs) zero i h = omega arith
 there_below (x ∷ xs) (suc b) i h = let k = there_below xs b i h in omega arith
 
 -- one more instruction before the others
-pub after_more : (xs : List Instr) (i j : ℕ) (d : Instr) (out : Var → Bool) (all : Live) (ls : List Live) → j ≡ suc i → i < length xs → ((q : Var) → holds all q ≡ (is_fp q || back (instrs_of (drop j xs)) out q)) → AreAfter (instrs_of (drop j xs)) out (reverse ls) → AreAfter (instrs_of (drop i xs)) out (reverse (ls ++ all ∷ []))
+pub after_more : (xs : List Instr) (i j : ℕ) (d : Instr) (out : Var → Bool) (all : Live) (ls : List Live) → j ≡ suc i → i < length xs → ((q : Var) → in_set all q ≡ (is_fp q || back (instrs_of (drop j xs)) out q)) → AreAfter (instrs_of (drop j xs)) out (reverse ls) → AreAfter (instrs_of (drop i xs)) out (reverse (ls ++ all ∷ []))
 after_more xs i j d out all ls p h e a =
-    let e2 : (q : Var) → holds all q ≡ (is_fp q || back (instrs_of (drop (suc i) xs)) out q) = subst (λ (k : ℕ). (q : Var) → holds all q ≡ (is_fp q || back (instrs_of (drop k xs)) out q)) p e in
+    let e2 : (q : Var) → in_set all q ≡ (is_fp q || back (instrs_of (drop (suc i) xs)) out q) = subst (λ (k : ℕ). (q : Var) → in_set all q ≡ (is_fp q || back (instrs_of (drop k xs)) out q)) p e in
     let a2 : AreAfter (instrs_of (drop (suc i) xs)) out (reverse ls) = subst (λ (k : ℕ). AreAfter (instrs_of (drop k xs)) out (reverse ls)) p a in
     rw (drop-cons xs i d, reverse-append ls (all ∷ [])) (e2, a2)
 
 -- what is live after each instruction of a code
-pub lives_are : (blocks : List Block) (out : List Live) (after : List (Vec Live)) → ((b : ℕ) (xs : List PlainInstr) (q : Var) → (back xs (holds_at out b) q ≡ true) ↔ IsRead (map block_of blocks) q (record { block = b; rest = xs })) → ((b : ℕ) → b < length blocks → AreAfter (instrs_at (map block_of blocks) b) (holds_at out b) (lives_at after b)) → (b i : ℕ) (v : Var) → i < length (instrs_at (map block_of blocks) b) → IsTrue (holds_at (lives_at after b) i v) ↔ LiveAfter (map block_of blocks) b i v
+pub lives_are : (blocks : List Block) (out : List LiveVars) (after : List (Vec Live)) → ((b : ℕ) (xs : List PlainInstr) (q : Var) → (back xs (holds_at out b) q ≡ true) ↔ IsRead (map block_of blocks) q (record { block = b; rest = xs })) → ((b : ℕ) → b < length blocks → AreAfter (instrs_at (map block_of blocks) b) (holds_at out b) (lives_at after b)) → (b i : ℕ) (v : Var) → i < length (instrs_at (map block_of blocks) b) → IsTrue (in_set_at (lives_at after b) i v) ↔ LiveAfter (map block_of blocks) b i v
 lives_are blocks out after r a b i v h =
     let there : b < length blocks = omega (arith, there_below (map block_of blocks) b i h, length-map blocks block_of) in
-    fp_or_read (map block_of blocks) b v (drop (suc i) (instrs_at (map block_of blocks) b)) (holds_at out b) (holds_at (lives_at after b) i v)
+    fp_or_read (map block_of blocks) b v (drop (suc i) (instrs_at (map block_of blocks) b)) (holds_at out b) (in_set_at (lives_at after b) i v)
     (after_at (instrs_at (map block_of blocks) b) (holds_at out b) (lives_at after b) (a b there) i v h)
     (r b (drop (suc i) (instrs_at (map block_of blocks) b)) v)
 
-pub lengths_are : (blocks : List Block) (out : List Live) (after : List (Vec Live)) → length after ≡ length blocks → ((b : ℕ) → b < length blocks → AreAfter (instrs_at (map block_of blocks) b) (holds_at out b) (lives_at after b)) → (b : ℕ) → length (lives_at after b) ≡ length (instrs_at (map block_of blocks) b)
+pub lengths_are : (blocks : List Block) (out : List LiveVars) (after : List (Vec Live)) → length after ≡ length blocks → ((b : ℕ) → b < length blocks → AreAfter (instrs_at (map block_of blocks) b) (holds_at out b) (lives_at after b)) → (b : ℕ) → length (lives_at after b) ≡ length (instrs_at (map block_of blocks) b)
 lengths_are blocks out after e a = all_lengths (map block_of blocks) (holds_at out) after (e ∙ sym (length-map blocks block_of)) (λ b h. a b (omega (arith, h, length-map blocks block_of)))
 
 fp_again : (f r s b : Bool) → (f || (r || (not s && (f || b)))) ≡ (f || (r || (not s && b)))
@@ -127,18 +127,18 @@ live_more xs i j d out live new p h g e f q =
     ∙ sym (ap (λ (ys : List Instr). is_fp q || back (instrs_of ys) out q) cut)
 
 -- a block's instructions and its set, by their places
-pub after_there : (blocks : List Block) (outs : List Live) (b : ℕ) (d : Block) (l : Live) (is : List Instr) (ls : List Live) → b < length blocks → b < length outs → is ≡ (slice_index_or blocks b d).instrs.items → l ≡ slice_index_or outs b l → AreAfter (instrs_of is) (holds l) ls → AreAfter (instrs_at (map block_of blocks) b) (holds_at outs b) ls
+pub after_there : (blocks : List Block) (outs : List LiveVars) (b : ℕ) (d : Block) (l : LiveVars) (is : List Instr) (ls : List Live) → b < length blocks → b < length outs → is ≡ (slice_index_or blocks b d).instrs.items → l ≡ slice_index_or outs b l → AreAfter (instrs_of is) (holds l) ls → AreAfter (instrs_at (map block_of blocks) b) (holds_at outs b) ls
 after_there blocks outs b d l is ls h k e i a =
     let there : instrs_of is ≡ instrs_at (map block_of blocks) b = ap (λ (js : List Instr). instrs_of js) e ∙ sym (instrs_there blocks b d h) in
     let held : holds l ≡ holds_at outs b = fun_ext (λ v. set_at outs b l v k i) in
     subst (λ (xs : List PlainInstr). AreAfter xs (holds_at outs b) ls) there (subst (λ (f : Var → Bool). AreAfter (instrs_of is) f ls) held a)
 
 -- the same where the blocks and the sets were lent
-module _ (blocks lent lent2 : List Block) (out out2 : List Live) (after : List (Vec Live)) (p : lent ≡ blocks) (q : lent2 ≡ blocks) (o : out2 ≡ out) (a : (b : ℕ) → b < length lent2 → AreAfter (instrs_at (map block_of lent2) b) (holds_at out2 b) (lives_at after b)) where
+module _ (blocks lent lent2 : List Block) (out out2 : List LiveVars) (after : List (Vec Live)) (p : lent ≡ blocks) (q : lent2 ≡ blocks) (o : out2 ≡ out) (a : (b : ℕ) → b < length lent2 → AreAfter (instrs_at (map block_of lent2) b) (holds_at out2 b) (lives_at after b)) where
   after_lent : (b : ℕ) → b < length blocks → AreAfter (instrs_at (map block_of blocks) b) (holds_at out b) (lives_at after b)
-  after_lent = subst (λ (ls : List Live). (b : ℕ) → b < length blocks → AreAfter (instrs_at (map block_of blocks) b) (holds_at ls b) (lives_at after b)) o (subst (λ (bs : List Block). (b : ℕ) → b < length bs → AreAfter (instrs_at (map block_of bs) b) (holds_at out2 b) (lives_at after b)) q a)
+  after_lent = subst (λ (ls : List LiveVars). (b : ℕ) → b < length blocks → AreAfter (instrs_at (map block_of blocks) b) (holds_at ls b) (lives_at after b)) o (subst (λ (bs : List Block). (b : ℕ) → b < length bs → AreAfter (instrs_at (map block_of bs) b) (holds_at out2 b) (lives_at after b)) q a)
 
-  pub code_lives : ((b : ℕ) (xs : List PlainInstr) (v : Var) → (back xs (holds_at out b) v ≡ true) ↔ IsRead (map block_of lent) v (record { block = b; rest = xs })) → (b i : ℕ) (v : Var) → i < length (instrs_at (map block_of blocks) b) → IsTrue (holds_at (lives_at after b) i v) ↔ LiveAfter (map block_of blocks) b i v
+  pub code_lives : ((b : ℕ) (xs : List PlainInstr) (v : Var) → (back xs (holds_at out b) v ≡ true) ↔ IsRead (map block_of lent) v (record { block = b; rest = xs })) → (b i : ℕ) (v : Var) → i < length (instrs_at (map block_of blocks) b) → IsTrue (in_set_at (lives_at after b) i v) ↔ LiveAfter (map block_of blocks) b i v
   code_lives r = lives_are blocks out after (subst (λ (bs : List Block). (b : ℕ) (xs : List PlainInstr) (v : Var) → (back xs (holds_at out b) v ≡ true) ↔ IsRead (map block_of bs) v (record { block = b; rest = xs })) p r) after_lent
 
   pub code_lengths : length after ≡ length lent2 → (b : ℕ) → length (lives_at after b) ≡ length (instrs_at (map block_of blocks) b)

@@ -1,20 +1,21 @@
 -- Registers as keys of a set.
-use Rattle.std.proofs.Common.{◌≡◌, ℕ, Bool, true, false, List, [], ◌∷◌, refl, sym, ◌∙◌, ap, subst, arith}
-use Rattle.std.specs.Prelude.{not, ◌||◌, ◌&&◌, cond}
+use Rattle.std.proofs.Common.{◌≡◌, ℕ, ◌+◌, ◌<◌, Bool, true, false, List, [], ◌∷◌, length, take, slice_index_or, refl, sym, ◌∙◌, ap, arith}
+use Rattle.std.specs.Prelude.{◌||◌, cond}
 use Rattle.std.specs.List.{list_any}
 use Rattle.std.specs.Ordering.{is_eq, nat_cmp}
-use Rattle.std.proofs.Common.{Result, Ok, Err, OnOk, ◌==◌}
+use Rattle.std.proofs.Common.{◌==◌}
+use Rattle.std.proofs.lemmas.List.Folds.{list_any_more}
 use Rattle.std.proofs.lemmas.Bool.Decides.{nat_tests}
-use Rattle.std.specs.BTreeSet.{BTreeSet, contains, Updates, UpdatesBy}
+use Rattle.std.specs.BTreeSet.{BTreeSet, Updates}
 use Rattle.std.specs.BTreeMap.{is_at}
 use Rattle.po_term.specs.declared.term.Reg.{Reg as Register}
 use Rattle.po_term.specs.declared.term.Reg.TheVariants.{Virt, Fp, Rv, Arg}
 use Rattle.po_term.specs.Simplified.{reg_eq}
-use Rattle.po_model.specs.declared.pair.Live.{Live}
 use Rattle.po_model.specs.declared.var.Var.{Var}
 use Rattle.po_model.specs.declared.var.Var.TheVariants.{Reg, Cc}
-use Rattle.po_model.specs.LiveSets.{holds}
-use Rattle.po_live.specs.Sets.{var_eq}
+use Rattle.po_model.specs.LiveSets.{holds as in_set}
+use Rattle.po_live.specs.declared.sets.LiveVars.{LiveVars}
+use Rattle.po_live.specs.Sets.{has_reg, holds}
 use Rattle.po_term.specs.contracts.term.RegOrd.TheImpl.{cmp-value}
 
 nat_key : (m n : ℕ) → is_eq (nat_cmp m n) ≡ (m == n)
@@ -42,19 +43,27 @@ any_key : (q : Register) (ks : List Register) → list_any (is_at (cmp-value.it 
 any_key q [] = refl
 any_key q (k ∷ ks) = rw (key_eq q k, any_key q ks)
 
--- what a set has after r is put in, or taken out
-pub reg_put : (r : Register) (s n : BTreeSet Register) (c : Bool) → Updates cmp-value.it s n r true → (q : Var) → holds (record { regs = n; cc = c }) q ≡ (var_eq (Reg r) q || holds (record { regs = s; cc = c }) q)
-reg_put r s n c u (Reg q) = sym (any_key q n.keys) ∙ u.0 q ∙ ap (λ b. cond b true (list_any (is_at (cmp-value.it q)) s.keys)) (key_eq r q) ∙ in_or (reg_eq r q) ∙ ap (λ b. reg_eq r q || b) (any_key q s.keys)
+-- what a set has after r is put in
+pub key_put : (r : Register) (s n : BTreeSet Register) → Updates cmp-value.it s n r true → (q : Register) → list_any (reg_eq q) n.keys ≡ (reg_eq r q || list_any (reg_eq q) s.keys)
+key_put r s n u q = sym (any_key q n.keys) ∙ u.0 q ∙ ap (λ b. cond b true (list_any (is_at (cmp-value.it q)) s.keys)) (key_eq r q) ∙ in_or (reg_eq r q) ∙ ap (λ b. reg_eq r q || b) (any_key q s.keys)
   where
     in_or : (b : Bool) → cond b true (list_any (is_at (cmp-value.it q)) s.keys) ≡ (b || list_any (is_at (cmp-value.it q)) s.keys)
     in_or true = refl
     in_or false = refl
-reg_put r s n c u Cc = refl
 
-pub reg_taken : (r : Register) (s n : BTreeSet Register) (c : Bool) → Updates cmp-value.it s n r false → (q : Var) → holds (record { regs = n; cc = c }) q ≡ (not (var_eq (Reg r) q) && holds (record { regs = s; cc = c }) q)
-reg_taken r s n c u (Reg q) = sym (any_key q n.keys) ∙ u.0 q ∙ ap (λ b. cond b false (list_any (is_at (cmp-value.it q)) s.keys)) (key_eq r q) ∙ out (reg_eq r q) ∙ ap (λ b. not (reg_eq r q) && b) (any_key q s.keys)
-  where
-    out : (b : Bool) → cond b false (list_any (is_at (cmp-value.it q)) s.keys) ≡ (not b && list_any (is_at (cmp-value.it q)) s.keys)
-    out true = refl
-    out false = refl
-reg_taken r s n c u Cc = refl
+or_comm : (a b : Bool) → (a || b) ≡ (b || a)
+or_comm true true = refl
+or_comm true false = refl
+or_comm false true = refl
+or_comm false false = refl
+
+-- the keys of one more register of a list
+pub keys_more : (rs : List Register) (i : ℕ) (r : Register) (s n : BTreeSet Register) → i < length rs → r ≡ slice_index_or rs i r → ((q : Register) → list_any (reg_eq q) n.keys ≡ (reg_eq r q || list_any (reg_eq q) s.keys))
+    → ((q : Register) → list_any (reg_eq q) s.keys ≡ has_reg (take i rs) q) → (q : Register) → list_any (reg_eq q) n.keys ≡ has_reg (take (i + 1) rs) q
+keys_more rs i r s n h e p was q =
+    p q ∙ ap (λ b. reg_eq r q || b) (was q) ∙ or_comm (reg_eq r q) (has_reg (take i rs) q)
+    ∙ ap (λ k. has_reg (take i rs) q || reg_eq k q) e ∙ sym (list_any_more (λ k. reg_eq k q) rs i r h)
+
+pub set_holds : (s : BTreeSet Register) (l : LiveVars) → ((q : Register) → list_any (reg_eq q) s.keys ≡ has_reg l.regs.items q) → (q : Var) → in_set (record { regs = s; cc = l.cc }) q ≡ holds l q
+set_holds s l e (Reg r) = e r
+set_holds s l e Cc = refl

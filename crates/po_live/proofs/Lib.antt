@@ -1,4 +1,5 @@
--- Sets of registers
+-- Registers that are held
+pub mod Held
 pub mod Keys
 pub mod Outs
 -- The blocks before a block
@@ -14,3 +15,5 @@ pub mod Spreads
 pub mod Solved
 -- The sets are those by paths
 pub mod Paths
+-- One list for a code
+pub mod Listed

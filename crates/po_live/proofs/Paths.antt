@@ -1,10 +1,10 @@
 -- The sets that are computed backwards are those by paths.
-use Rattle.std.proofs.Common.{◌≡◌, ℕ, Bool, true, false, List, [], ◌∷◌, refl, sym, ◌∙◌, ap, subst, arith, drop}
+use Rattle.std.proofs.Common.{◌≡◌, ℕ, Bool, true, false, List, [], ◌∷◌, refl, ap}
 use Rattle.std.specs.Prelude.{not, ◌||◌, ◌&&◌, ◌↔◌}
 use Rattle.std.proofs.lemmas.Bool.{false≢true, true≢false}
 use Rattle.po_model.specs.declared.var.Var.{Var}
 use Rattle.po_model.specs.Blocks.{PlainBlock, instrs_at, leads}
-use Rattle.po_model.specs.LiveAfter.{reads, sets, Point, Follows, ReadOn, IsRead}
+use Rattle.po_model.specs.LiveAfter.{reads, sets, Point, ReadOn, IsRead}
 use Rattle.po_live.specs.Sets.{back, nothing, sets_any}
 use Rattle.po_term.specs.Moves.{PlainInstr}
 

@@ -1,6 +1,6 @@
 -- Passing on what is due: what holds all along, and what that gives when nothing is due.
-use Rattle.std.proofs.Common.{◌≡◌, ℕ, zero, suc, ◌+◌, ◌<◌, ◌≤◌, Bool, true, false, List, [], ◌∷◌, ◌++◌, length, map, refl, sym, ◌∙◌, ap, subst, arith, slice_index_or}
-use Rattle.std.specs.Prelude.{not, ◌||◌, ◌&&◌, ◌==◌, nat_lt, ◌↔◌}
+use Rattle.std.proofs.Common.{◌≡◌, ℕ, zero, suc, ◌<◌, ◌≤◌, Bool, true, false, List, [], ◌∷◌, ◌++◌, length, map, refl, sym, ◌∙◌, ap, subst, arith, slice_index_or}
+use Rattle.std.specs.Prelude.{not, ◌||◌, ◌&&◌, ◌==◌, nat_lt}
 use Rattle.std.proofs.lemmas.Bool.{true≢false, false≢true, or_cases, and_parts, eqb-true}
 use Rattle.std.proofs.lemmas.Bool.Decides.{nat_tests}
 use mathlib.Core.Logic.{◌⊎◌, inl, inr}
@@ -16,11 +16,10 @@ use Rattle.std.specs.Global.{Vec}
 use Rattle.std.proofs.lemmas.List.{length-map}
 use Rattle.std.proofs.lemmas.List.Folds.{list_any-append}
 use Rattle.po_model.specs.declared.code.Block.{Block}
-use Rattle.po_model.specs.declared.pair.Live.{Live}
-use Rattle.po_model.specs.LiveSets.{holds_at}
+use Rattle.po_live.specs.declared.sets.LiveVars.{LiveVars}
+use Rattle.po_live.specs.Sets.{holds_at}
 use Rattle.po_live.proofs.Fuel.{eq_refl, var_eq_refl, var_eq_true}
 use Rattle.po_live.proofs.Paths.{IsClosed, IsJustified, back_split, back_same, reached, from_end, through}
-use Rattle.po_term.specs.Moves.{PlainInstr}
 
 lt_true : (a b : ℕ) → nat_lt a b ≡ true → a < b
 lt_true a b e = grind (arith, nat_tests)
@@ -245,7 +244,7 @@ module _ (blocks : List Block) where
   long : length (map block_of blocks) ≡ length blocks
   long = length-map blocks block_of
 
-  pub begun_blocks : (work : List Due) (out : List Live) → ((c : ℕ) (q : Var) → is_due work c q ≡ (nat_lt c (length blocks) && back (instrs_at (map block_of blocks) c) nothing q)) → ((b : ℕ) (q : Var) → holds_at out b q ≡ false) → Going (map block_of blocks) (vars_of work) (holds_at out) (is_due work)
+  pub begun_blocks : (work : List Due) (out : List LiveVars) → ((c : ℕ) (q : Var) → is_due work c q ≡ (nat_lt c (length blocks) && back (instrs_at (map block_of blocks) c) nothing q)) → ((b : ℕ) (q : Var) → holds_at out b q ≡ false) → Going (map block_of blocks) (vars_of work) (holds_at out) (is_due work)
   begun_blocks work out d none = begun (map block_of blocks) (vars_of work) (holds_at out) (is_due work)
       (λ c q. d c q ∙ ap (λ n. nat_lt c n && back (instrs_at (map block_of blocks) c) nothing q) (sym long))
       (among_vars work) none

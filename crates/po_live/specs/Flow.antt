@@ -1,19 +1,15 @@
 -- How what is live flows from block to block.
-use Rattle.std.specs.Prelude.{ℕ, zero, suc, nat_lt, if◌then◌else◌, ◌==◌, Bool, true, false, ◌||◌, ◌&&◌, List, [], ◌∷◌, Option, Some, None}
+use Rattle.std.specs.Prelude.{ℕ, zero, suc, nat_lt, if◌then◌else◌, ◌==◌, Bool, true, false, ◌||◌, List, [], ◌∷◌, Option, Some, None}
 use Rattle.std.specs.List.{list_any}
 use Rattle.std.specs.Global.{Vec}
 use Rattle.std.specs.BTreeMap.{BTreeMap, get}
 use Rattle.std.specs.Ordering.{nat_cmp}
-use Rattle.po_term.specs.declared.term.Label.{Label}
 use Rattle.po_term.specs.declared.term.Sym.{Sym}
 use Rattle.po_term.specs.Terms.{Place}
 use Rattle.po_term.specs.Moves.{Ending, GoTo, IfCc, IfTwo, CallOf, Return}
-use Rattle.po_model.specs.declared.pair.Live.{Live}
-use Rattle.po_model.specs.declared.var.Var.{Var}
 use Rattle.po_live.specs.declared.graph.Exit.{Exit}
 use Rattle.po_live.specs.declared.graph.Exit.TheVariants as exit
 use Rattle.po_model.specs.Blocks.{is_at}
-use Rattle.po_live.specs.Sets.{var_eq}
 
 abbrev pub exit_by : Option (Ending ℕ Place Sym) → Exit
 exit_by None = exit.Next

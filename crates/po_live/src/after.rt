@@ -3,16 +3,19 @@ ghost use Rattle.std.specs.Prelude.{◌≡◌, ◌<◌, ◌||◌, ◌&&◌, not,
 ghost use Rattle.po_term.specs.Moves.{instr_of, instrs_of};
 ghost use Rattle.po_model.specs.declared.var.Var.{Var as Variable};
 ghost use Rattle.po_model.specs.Blocks.{block_of, instrs_at};
-ghost use Rattle.po_model.specs.LiveAfter.{reads, sets};
-ghost use Rattle.po_model.specs.LiveSets.{holds, holds_at, lives_at};
-ghost use Rattle.po_live.specs.Sets.{is_fp, AreAfter};
+ghost use Rattle.po_model.specs.LiveSets.{holds as in_set, lives_at};
+ghost use Rattle.po_term.specs.Simplified.{reg_eq};
+ghost use Rattle.po_term.specs.declared.term.Reg.{Reg as Register};
+ghost use Rattle.std.specs.List.{list_any};
+ghost use Rattle.po_live.specs.Sets.{holds, holds_at, has_reg, AreAfter};
 
-use crate::sets::{add, copy};
-use crate::uses::step;
-use po_model::{Block, Live, Var};
+use crate::sets::{LiveVars, empty};
+use crate::uses::{begin, step_with_fp};
+use po_model::{Block, Live};
 use po_term::{Instr, Reg};
 use po_word::OutOfMemory;
 use std::alloc::Global;
+use std::collections::BTreeSet;
 
 fn push_live(after: &mut Vec<Live>, live: Live) -> Result<(), OutOfMemory>
     ensures { OnOk result (after.new.items ≡ after.old.items ++ live ∷ []) }
@@ -23,33 +26,44 @@ fn push_live(after: &mut Vec<Live>, live: Live) -> Result<(), OutOfMemory>
     }
 }
 
-/// The set with `fp`, which is live everywhere.
-fn with_fp(live: &Live) -> Result<Live, OutOfMemory>
-    ensures { IfOk result (λ l. (q : Variable) → holds l q ≡ (is_fp q || holds live.now q)) }
+fn put(regs: &mut BTreeSet<Reg>, r: Reg) -> Result<(), OutOfMemory>
+    ensures { OnOk result ((q : Register) → list_any (reg_eq q) regs.new.keys ≡ (reg_eq r q || list_any (reg_eq q) regs.old.keys)) }
 {
-    let mut all = copy(live)?;
-    add(&mut all, Var::Reg(Reg::Fp))?;
-    Ok(all)
+    match regs.insert(r) {
+        Ok(_) => Ok(()),
+        Err(_) => Err(OutOfMemory),
+    }
 }
 
-/// Back through an instruction, with `fp` before it too.
-fn step_with_fp(live: &mut Live, x: &Instr) -> Result<(), OutOfMemory>
-    ensures { OnOk result ((q : Variable) → holds live.new q ≡ (is_fp q || (reads (instr_of x.now) q || (not (sets (instr_of x.now) q) && holds live.old q)))) }
+fn keys_of(alloc: Global, regs: &[Reg]) -> Result<BTreeSet<Reg>, OutOfMemory>
+    ensures { IfOk result (λ set. (q : Register) → list_any (reg_eq q) set.keys ≡ has_reg regs.now q) }
 {
-    step(live, x)?;
-    add(live, Var::Reg(Reg::Fp))
+    let mut set = BTreeSet::new(alloc);
+    for r in regs {
+        put(&mut set, *r)?;
+    }
+    Ok(set)
+}
+
+/// What is live, as a set.
+fn set_of(alloc: Global, live: &LiveVars) -> Result<Live, OutOfMemory>
+    ensures { IfOk result (λ l. (q : Variable) → in_set l q ≡ holds live.now q) }
+{
+    let regs = keys_of(alloc, &live.regs)?;
+    Ok(Live { regs, cc: live.cc })
 }
 
 /// What is live after each of these instructions.
-fn block_after(alloc: Global, xs: &[Instr], out: &Live) -> Result<Vec<Live>, OutOfMemory>
+fn block_after(alloc: Global, xs: &[Instr], out: &LiveVars) -> Result<Vec<Live>, OutOfMemory>
     ensures { IfOk result (λ after. AreAfter (instrs_of xs.now) (holds out.now) after.items) }
 {
-    let mut live = with_fp(out)?;
+    let mut live = empty(alloc);
+    begin(&mut live, out)?;
     let mut after = Vec::with_capacity(alloc, xs.len())?;
     let mut i = xs.len();
     while i > 0 {
         i -= 1;
-        push_live(&mut after, copy(&live)?)?;
+        push_live(&mut after, set_of(alloc, &live)?)?;
         step_with_fp(&mut live, &xs[i])?;
     }
     after.reverse();
@@ -69,7 +83,7 @@ fn push_block(after: &mut Vec<Vec<Live>>, lives: Vec<Live>) -> Result<(), OutOfM
 pub fn blocks_after(
     alloc: Global,
     blocks: &[Block],
-    out: &[Live],
+    out: &[LiveVars],
 ) -> Result<Vec<Vec<Live>>, OutOfMemory>
     requires { length out.now ≡ length blocks.now }
     ensures len { IfOk result (λ after. length after.items ≡ length blocks.now) }

@@ -8,8 +8,9 @@ ghost use Rattle.po_model.specs.Blocks.{block_of, instrs_at};
 ghost use Rattle.po_model.specs.LiveAfter.{move_reads, move_sets, reads, sets, IsRead};
 ghost use Rattle.po_live.specs.Flags.{cc_before, cc_after, flag_at, flags_at};
 
+use crate::sets::LiveVars;
 use crate::solve::live_out;
-use po_model::{Block, Live};
+use po_model::Block;
 use po_term::{Cond, Instr, Transfer};
 use po_word::OutOfMemory;
 use std::alloc::Global;
@@ -68,7 +69,7 @@ fn some_reads_first(blocks: &[Block]) -> bool
 }
 
 /// Which of these sets have `cc`.
-fn flags_of(alloc: Global, sets: &[Live]) -> Result<Vec<bool>, OutOfMemory>
+fn flags_of(alloc: Global, sets: &[LiveVars]) -> Result<Vec<bool>, OutOfMemory>
     ensures { IfOk result (λ flags. flags.items ≡ map (λ l. l.cc) sets.now) }
 {
     let mut flags = Vec::with_capacity(alloc, sets.len())?;

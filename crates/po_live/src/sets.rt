@@ -1,27 +1,43 @@
-//! Sets of registers and `cc`. A contract says of such a set whether it holds each one (`holds`).
-ghost use Rattle.std.specs.Prelude.{◌≡◌, ℕ, OnOk, IfOk, not, true, false, ◌||◌, ◌&&◌};
+//! Registers and `cc`: what is live at a place, while it is found. A contract says whether each one is held (`holds`).
+//!
+//! The registers stand in a list, since few are live at one place. None stands there twice.
+ghost use Rattle.std.specs.Prelude.{◌≡◌, ◌++◌, ◌∷◌, [], ℕ, OnOk, IfOk, not, true, false, ◌||◌, ◌&&◌};
+ghost use Rattle.std.specs.List.{filter};
+ghost use Rattle.po_term.specs.Simplified.{reg_eq};
 ghost use Rattle.po_model.specs.declared.var.Var.{Var as Variable};
-ghost use Rattle.po_model.specs.LiveSets.{holds};
-ghost use Rattle.po_live.specs.Sets.{var_eq};
+ghost use Rattle.po_live.specs.Sets.{var_eq, holds, has_reg};
 
-use po_model::{Live, Var};
+use po_model::Var;
 use po_term::Reg;
 use po_word::OutOfMemory;
 use std::alloc::Global;
-use std::collections::BTreeSet;
 
-/// The set of nothing.
-pub fn empty(alloc: Global) -> Live
+/// What is live at a place: registers, and whether `cc` is.
+#[derive(Drop)]
+pub struct LiveVars {
+    pub regs: Vec<Reg>,
+    pub cc: bool,
+}
+
+/// Nothing.
+pub fn empty(alloc: Global) -> LiveVars
     ensures { (q : Variable) → holds result q ≡ false }
 {
-    Live {
-        regs: BTreeSet::new(alloc),
+    LiveVars {
+        regs: Vec::new(alloc),
         cc: false,
     }
 }
 
-/// Puts v into the set, and says whether it is new there.
-pub fn insert(live: &mut Live, v: Var) -> Result<bool, OutOfMemory>
+/// Whether the register is in the list.
+pub fn has_reg(regs: &[Reg], r: Reg) -> bool
+    ensures { result ≡ has_reg regs.now r }
+{
+    regs.iter().any(|q| *q == r)
+}
+
+/// Puts v in, and says whether it is new.
+pub fn insert(live: &mut LiveVars, v: Var) -> Result<bool, OutOfMemory>
     ensures all { OnOk result ((q : Variable) → holds live.new q ≡ (var_eq v q || holds live.old q)) }
     ensures new { IfOk result (λ new. new ≡ not (holds live.old v)) }
 {
@@ -35,26 +51,36 @@ pub fn insert(live: &mut Live, v: Var) -> Result<bool, OutOfMemory>
     }
 }
 
-fn insert_reg(live: &mut Live, r: Reg) -> Result<bool, OutOfMemory>
+fn push_reg(live: &mut LiveVars, r: Reg) -> Result<(), OutOfMemory>
+    ensures regs { OnOk result (live.new.regs.items ≡ live.old.regs.items ++ r ∷ []) }
+    ensures cc { live.new.cc ≡ live.old.cc }
+{
+    live.regs.push(r)?;
+    Ok(())
+}
+
+fn insert_reg(live: &mut LiveVars, r: Reg) -> Result<bool, OutOfMemory>
     ensures all { OnOk result ((q : Variable) → holds live.new q ≡ (var_eq (Var.Reg r) q || holds live.old q)) }
     ensures new { IfOk result (λ new. new ≡ not (holds live.old (Var.Reg r))) }
 {
-    match live.regs.insert(r) {
-        Ok(new) => Ok(new),
-        Err(_) => Err(OutOfMemory),
+    if has_reg(&live.regs, r) {
+        Ok(false)
+    } else {
+        push_reg(live, r)?;
+        Ok(true)
     }
 }
 
-/// Puts v into the set.
-pub fn add(live: &mut Live, v: Var) -> Result<(), OutOfMemory>
+/// Puts v in.
+pub fn add(live: &mut LiveVars, v: Var) -> Result<(), OutOfMemory>
     ensures { OnOk result ((q : Variable) → holds live.new q ≡ (var_eq v q || holds live.old q)) }
 {
     insert(live, v)?;
     Ok(())
 }
 
-/// Takes v out of the set.
-pub fn remove(live: &mut Live, v: Var)
+/// Takes v out.
+pub fn remove(live: &mut LiveVars, v: Var)
     ensures { (q : Variable) → holds live.new q ≡ (not (var_eq v q) && holds live.old q) }
 {
     match v {
@@ -63,18 +89,14 @@ pub fn remove(live: &mut Live, v: Var)
     }
 }
 
-fn remove_reg(live: &mut Live, r: Reg)
-    ensures { (q : Variable) → holds live.new q ≡ (not (var_eq (Var.Reg r) q) && holds live.old q) }
+fn remove_from(regs: &mut Vec<Reg>, r: Reg)
+    ensures { regs.new.items ≡ filter (λ q. not (reg_eq r q)) regs.old.items }
 {
-    live.regs.remove(&r);
+    regs.retain(|q| r != *q);
 }
 
-/// A set that holds what the other does.
-pub fn copy(live: &Live) -> Result<Live, OutOfMemory>
-    ensures { IfOk result (λ c. (q : Variable) → holds c q ≡ holds live.now q) }
+fn remove_reg(live: &mut LiveVars, r: Reg)
+    ensures { (q : Variable) → holds live.new q ≡ (not (var_eq (Var.Reg r) q) && holds live.old q) }
 {
-    match live.regs.clone() {
-        Ok(regs) => Ok(Live { regs, cc: live.cc }),
-        Err(_) => Err(OutOfMemory),
-    }
+    remove_from(&mut live.regs, r);
 }

@@ -5,18 +5,16 @@ ghost use Rattle.po_term.specs.Moves.{instrs_of, PlainInstr};
 ghost use Rattle.po_model.specs.declared.var.Var.{Var as Variable};
 ghost use Rattle.po_model.specs.Blocks.{block_of, instrs_at};
 ghost use Rattle.po_model.specs.LiveAfter.{IsRead};
-ghost use Rattle.po_model.specs.LiveSets.{holds, holds_at};
-ghost use Rattle.po_live.specs.Sets.{var_eq, back, nothing, sets_any};
+ghost use Rattle.po_live.specs.Sets.{var_eq, back, nothing, sets_any, holds, holds_at};
 ghost use Rattle.po_live.specs.Due.{is_due, is_in, is_among, in_regs, missing_below};
 
 use crate::graph::predecessors;
-use crate::sets::{empty, insert};
+use crate::sets::{LiveVars, empty, insert};
 use crate::uses::{some_sets, walk};
-use po_model::{Block, Live, Var};
+use po_model::{Block, Var};
 use po_term::{Instr, Reg};
 use po_word::OutOfMemory;
 use std::alloc::Global;
-use std::collections::BTreeSet;
 
 /// A register or `cc` that is live at the start of a block.
 #[derive(Clone, Copy, Debug, PartialEq, Eq)]
@@ -36,7 +34,7 @@ fn push_due(work: &mut Vec<Due>, block: usize, var: Var) -> Result<(), OutOfMemo
 }
 
 /// Puts v into the set at p, and says whether it is new there.
-fn insert_at(out: &mut [Live], p: usize, v: Var) -> Result<bool, OutOfMemory>
+fn insert_at(out: &mut [LiveVars], p: usize, v: Var) -> Result<bool, OutOfMemory>
     requires { p < length out.old }
     ensures all { OnOk result ((b : ℕ) (q : Variable) → holds_at out.new b q ≡ ((p == b && var_eq v q) || holds_at out.old b q)) }
     ensures new { IfOk result (λ new. new ≡ not (holds_at out.old p v)) }
@@ -57,7 +55,7 @@ fn arrive(
     p: usize,
     v: Var,
     blocks: &[Block],
-    out: &mut [Live],
+    out: &mut [LiveVars],
     work: &mut Vec<Due>,
 ) -> Result<(), OutOfMemory>
     requires here { p < length out.old }
@@ -79,7 +77,7 @@ fn spread(
     v: Var,
     ps: &[usize],
     blocks: &[Block],
-    out: &mut [Live],
+    out: &mut [LiveVars],
     work: &mut Vec<Due>,
 ) -> Result<(), OutOfMemory>
     requires here { (p : ℕ) → is_in ps.now p ≡ true → p < length out.old }
@@ -96,8 +94,8 @@ fn spread(
     Ok(())
 }
 
-fn push_regs(work: &mut Vec<Due>, b: usize, regs: &BTreeSet<Reg>) -> Result<(), OutOfMemory>
-    ensures { OnOk result ((c : ℕ) (q : Variable) → is_due work.new.items c q ≡ ((b == c && in_regs regs.now.keys q) || is_due work.old.items c q)) }
+fn push_regs(work: &mut Vec<Due>, b: usize, regs: &[Reg]) -> Result<(), OutOfMemory>
+    ensures { OnOk result ((c : ℕ) (q : Variable) → is_due work.new.items c q ≡ ((b == c && in_regs regs.now q) || is_due work.old.items c q)) }
 {
     for r in regs {
         push_due(work, b, Var::Reg(*r))?;
@@ -115,7 +113,7 @@ fn push_cc(work: &mut Vec<Due>, b: usize, cc: bool) -> Result<(), OutOfMemory>
 }
 
 /// All of a set are live at the start of the block b.
-fn push_live(work: &mut Vec<Due>, b: usize, live: &Live) -> Result<(), OutOfMemory>
+fn push_live(work: &mut Vec<Due>, b: usize, live: &LiveVars) -> Result<(), OutOfMemory>
     ensures { OnOk result ((c : ℕ) (q : Variable) → is_due work.new.items c q ≡ ((b == c && holds live.now q) || is_due work.old.items c q)) }
 {
     push_regs(work, b, &live.regs)?;
@@ -123,7 +121,7 @@ fn push_live(work: &mut Vec<Due>, b: usize, live: &Live) -> Result<(), OutOfMemo
 }
 
 /// What a block reads before it sets it.
-fn start(alloc: Global, xs: &[Instr]) -> Result<Live, OutOfMemory>
+fn start(alloc: Global, xs: &[Instr]) -> Result<LiveVars, OutOfMemory>
     ensures { IfOk result (λ live. (q : Variable) → holds live q ≡ back (instrs_of xs.now) nothing q) }
 {
     let mut live = empty(alloc);
@@ -144,7 +142,7 @@ fn starts(alloc: Global, blocks: &[Block]) -> Result<Vec<Due>, OutOfMemory>
     Ok(work)
 }
 
-fn push_set(sets: &mut Vec<Live>, live: Live) -> Result<(), OutOfMemory>
+fn push_set(sets: &mut Vec<LiveVars>, live: LiveVars) -> Result<(), OutOfMemory>
     ensures { OnOk result (sets.new.items ≡ sets.old.items ++ live ∷ []) }
 {
     match sets.push(live) {
@@ -154,7 +152,7 @@ fn push_set(sets: &mut Vec<Live>, live: Live) -> Result<(), OutOfMemory>
 }
 
 /// n empty sets.
-fn empty_sets(alloc: Global, n: usize) -> Result<Vec<Live>, OutOfMemory>
+fn empty_sets(alloc: Global, n: usize) -> Result<Vec<LiveVars>, OutOfMemory>
     ensures len { IfOk result (λ out. length out.items ≡ n) }
     ensures empty { IfOk result (λ out. (b : ℕ) (q : Variable) → holds_at out.items b q ≡ false) }
 {
@@ -166,7 +164,7 @@ fn empty_sets(alloc: Global, n: usize) -> Result<Vec<Live>, OutOfMemory>
 }
 
 /// What is live at the end of each block: what is read on some path from there, with nothing before that sets it.
-pub fn live_out(alloc: Global, blocks: &[Block]) -> Result<Vec<Live>, OutOfMemory>
+pub fn live_out(alloc: Global, blocks: &[Block]) -> Result<Vec<LiveVars>, OutOfMemory>
     ensures len { IfOk result (λ out. length out.items ≡ length blocks.now) }
     ensures live { IfOk result (λ out. (b : ℕ) (xs : List PlainInstr) (q : Variable) →
         (back xs (holds_at out.items b) q ≡ true) ↔ IsRead (map block_of blocks.now) q (record { block = b; rest = xs })) }

@@ -4,17 +4,16 @@ ghost use Rattle.std.specs.List.{list_any};
 ghost use Rattle.po_term.specs.Terms.{tree_of};
 ghost use Rattle.po_term.specs.Moves.{move_of, moves_of, instr_of, instrs_of};
 ghost use Rattle.po_model.specs.declared.var.Var.{Var as Variable};
-ghost use Rattle.po_model.specs.LiveSets.{holds};
 ghost use Rattle.po_model.specs.LiveAfter.{is_reg, is_cc, is_arg_of, term_reads, move_reads, move_sets, reads, sets};
-ghost use Rattle.po_live.specs.Sets.{var_eq, back, sets_any};
+ghost use Rattle.po_live.specs.Sets.{holds, is_fp, var_eq, back, sets_any};
 
-use crate::sets::{add, remove};
-use po_model::{Live, Var};
+use crate::sets::{LiveVars, add, remove};
+use po_model::Var;
 use po_term::{Cond, Instr, Reg, Term, Transfer};
 use po_word::OutOfMemory;
 
 /// Puts in the registers of a term. It recurses as deep as the term is.
-fn read_term(live: &mut Live, t: &Term) -> Result<(), OutOfMemory>
+fn read_term(live: &mut LiveVars, t: &Term) -> Result<(), OutOfMemory>
     ensures { OnOk result ((q : Variable) → holds live.new q ≡ (term_reads (tree_of t.now) q || holds live.old q)) }
 {
     match t {
@@ -30,7 +29,7 @@ fn read_term(live: &mut Live, t: &Term) -> Result<(), OutOfMemory>
     }
 }
 
-fn read_two(live: &mut Live, x: &Term, y: &Term) -> Result<(), OutOfMemory>
+fn read_two(live: &mut LiveVars, x: &Term, y: &Term) -> Result<(), OutOfMemory>
     ensures { OnOk result ((q : Variable) → holds live.new q ≡ ((term_reads (tree_of x.now) q || term_reads (tree_of y.now) q) || holds live.old q)) }
 {
     read_term(live, x)?;
@@ -38,7 +37,7 @@ fn read_two(live: &mut Live, x: &Term, y: &Term) -> Result<(), OutOfMemory>
 }
 
 /// Puts in `arg0` to `arg(n-1)`.
-fn read_args(live: &mut Live, n: u8) -> Result<(), OutOfMemory>
+fn read_args(live: &mut LiveVars, n: u8) -> Result<(), OutOfMemory>
     ensures { OnOk result ((q : Variable) → holds live.new q ≡ (is_arg_of n q || holds live.old q)) }
 {
     for k in 0..n {
@@ -48,7 +47,7 @@ fn read_args(live: &mut Live, n: u8) -> Result<(), OutOfMemory>
 }
 
 /// Puts in what a transfer reads.
-fn read(live: &mut Live, t: &Transfer) -> Result<(), OutOfMemory>
+fn read(live: &mut LiveVars, t: &Transfer) -> Result<(), OutOfMemory>
     ensures { OnOk result ((q : Variable) → holds live.new q ≡ (move_reads (move_of t.now) q || holds live.old q)) }
 {
     match t {
@@ -70,7 +69,7 @@ fn read(live: &mut Live, t: &Transfer) -> Result<(), OutOfMemory>
 }
 
 /// Takes out what a transfer sets.
-fn unset(live: &mut Live, t: &Transfer)
+fn unset(live: &mut LiveVars, t: &Transfer)
     ensures { (q : Variable) → holds live.new q ≡ (not (move_sets (move_of t.now) q) && holds live.old q) }
 {
     match t {
@@ -87,7 +86,7 @@ fn unset(live: &mut Live, t: &Transfer)
     }
 }
 
-fn read_all(live: &mut Live, xs: &[Transfer]) -> Result<(), OutOfMemory>
+fn read_all(live: &mut LiveVars, xs: &[Transfer]) -> Result<(), OutOfMemory>
     ensures { OnOk result ((q : Variable) → holds live.new q ≡ (reads (moves_of xs.now) q || holds live.old q)) }
 {
     for t in xs {
@@ -96,7 +95,7 @@ fn read_all(live: &mut Live, xs: &[Transfer]) -> Result<(), OutOfMemory>
     Ok(())
 }
 
-fn unset_all(live: &mut Live, xs: &[Transfer])
+fn unset_all(live: &mut LiveVars, xs: &[Transfer])
     ensures { (q : Variable) → holds live.new q ≡ (not (sets (moves_of xs.now) q) && holds live.old q) }
 {
     for t in xs {
@@ -105,15 +104,33 @@ fn unset_all(live: &mut Live, xs: &[Transfer])
 }
 
 /// Back through an instruction.
-pub fn step(live: &mut Live, x: &Instr) -> Result<(), OutOfMemory>
+pub fn step(live: &mut LiveVars, x: &Instr) -> Result<(), OutOfMemory>
     ensures { OnOk result ((q : Variable) → holds live.new q ≡ (reads (instr_of x.now) q || (not (sets (instr_of x.now) q) && holds live.old q))) }
 {
     unset_all(live, &x.xs);
     read_all(live, &x.xs)
 }
 
+/// Behind the last instruction of a block: what is live at the block's end, and `fp`.
+pub fn begin(live: &mut LiveVars, out: &LiveVars) -> Result<(), OutOfMemory>
+    ensures { OnOk result ((q : Variable) → holds live.new q ≡ (is_fp q || holds out.now q)) }
+{
+    live.regs.clear();
+    live.regs.extend_from_slice(&out.regs)?;
+    live.cc = out.cc;
+    add(live, Var::Reg(Reg::Fp))
+}
+
+/// Back through an instruction, with `fp` before it too.
+pub fn step_with_fp(live: &mut LiveVars, x: &Instr) -> Result<(), OutOfMemory>
+    ensures { OnOk result ((q : Variable) → holds live.new q ≡ (is_fp q || (reads (instr_of x.now) q || (not (sets (instr_of x.now) q) && holds live.old q)))) }
+{
+    step(live, x)?;
+    add(live, Var::Reg(Reg::Fp))
+}
+
 /// Back through instructions.
-pub fn walk(live: &mut Live, xs: &[Instr]) -> Result<(), OutOfMemory>
+pub fn walk(live: &mut LiveVars, xs: &[Instr]) -> Result<(), OutOfMemory>
     ensures { OnOk result ((q : Variable) → holds live.new q ≡ back (instrs_of xs.now) (holds live.old) q) }
 {
     let mut i = xs.len();

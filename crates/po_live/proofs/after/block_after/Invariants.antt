@@ -1,8 +1,8 @@
-use Rattle.std.proofs.Common.{◌≡◌, ℕ, ◌≤◌, length, drop, reverse}
+use Rattle.std.proofs.Common.{◌≡◌, ◌≤◌, length, drop, reverse}
 use Rattle.std.specs.Prelude.{◌||◌}
 use Rattle.po_term.specs.Moves.{instrs_of}
 use Rattle.po_model.specs.declared.var.Var.{Var}
-use Rattle.po_model.specs.LiveSets.{holds}
+use Rattle.po_live.specs.Sets.{holds}
 use Rattle.po_live.specs.Sets.{is_fp, back, AreAfter}
 use Rattle.po_live.proofs.after.block_after.Given as goal
 

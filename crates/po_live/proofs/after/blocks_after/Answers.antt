@@ -1,6 +1,6 @@
-use Rattle.std.proofs.Common.{List, map, length-append, arith, subst, sym, ◌∙◌, ap}
+use Rattle.std.proofs.Common.{map, length-append, arith}
 use Rattle.po_model.specs.Blocks.{block_of}
-use Rattle.po_model.specs.LiveSets.{holds_at}
+use Rattle.po_live.specs.Sets.{holds_at}
 use Rattle.po_live.proofs.Instrs.{blocks_more, after_there}
 use Rattle.po_live.proofs.after.blocks_after.Goals as goal
 

@@ -1,7 +1,7 @@
 use Rattle.std.proofs.Common.{◌≡◌, ℕ, ◌<◌, length, map}
 use Rattle.po_model.specs.Blocks.{block_of, instrs_at}
-use Rattle.po_model.specs.LiveSets.{holds_at, lives_at}
-use Rattle.po_live.specs.Sets.{AreAfter}
+use Rattle.po_model.specs.LiveSets.{lives_at}
+use Rattle.po_live.specs.Sets.{AreAfter, holds_at}
 use Rattle.po_live.proofs.after.blocks_after.Given as goal
 
 abbrev pub invariant-loop-b : goal.invariant-loop-b

@@ -1,4 +1,4 @@
-use Rattle.std.proofs.Common.{List, ◌≡◌, ℕ, suc, ◌-◌, ◌∙◌, ap, length, sym, arith}
+use Rattle.std.proofs.Common.{List, ◌≡◌, suc, ◌-◌, ◌∙◌, ap, length, sym, arith}
 use Rattle.po_term.specs.declared.transfer.Transfer.{Transfer}
 use Rattle.po_term.specs.declared.transfer.Instr.{Instr}
 use Rattle.po_term.specs.Moves.{moves_of, instr_of}

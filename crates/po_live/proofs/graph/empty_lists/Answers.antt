@@ -1,4 +1,4 @@
-use Rattle.std.proofs.Common.{arith, ◌≡◌, ℕ, ◌+◌, length, length-append}
+use Rattle.std.proofs.Common.{arith, length-append}
 use Rattle.po_live.proofs.Preds.{pred_none}
 use Rattle.po_live.proofs.graph.empty_lists.Goals as goal
 

@@ -1,4 +1,4 @@
-use Rattle.std.proofs.Common.{List, ◌≡◌, ℕ, ◌<◌, ◌+◌, ◌∙◌, sym, length, map, drop, arith, length-drop}
+use Rattle.std.proofs.Common.{List, ◌∙◌, sym, map, drop, arith, length-drop}
 use Rattle.std.proofs.lemmas.List.{length-map}
 use Rattle.po_model.specs.declared.code.Block.{Block}
 use Rattle.po_model.specs.Blocks.{block_of}

@@ -1,4 +1,4 @@
-use Rattle.std.proofs.Common.{◌≡◌, ℕ, ◌≤◌, length, arith}
+use Rattle.std.proofs.Common.{◌≡◌, ◌≤◌, length, arith}
 use Rattle.po_live.proofs.Graphs.{written_back, edges_added}
 use Rattle.po_live.proofs.graph.predecessors.Goals as goal
 

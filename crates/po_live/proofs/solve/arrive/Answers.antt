@@ -1,6 +1,5 @@
-use Rattle.std.proofs.Common.{◌≡◌, ℕ, ◌+◌, ◌<◌, ◌≤◌, length, length-append, arith, ap, not, false, true, ◌∙◌, sym}
-use Rattle.po_model.specs.LiveSets.{holds_at}
-use Rattle.po_live.specs.Due.{missing_below}
+use Rattle.std.proofs.Common.{◌≡◌, length, length-append, arith, ap, false}
+use Rattle.po_live.specs.Sets.{holds_at}
 use Rattle.po_live.proofs.Fuel.{fuel_kept, fuel_less, was_false}
 use Rattle.po_live.proofs.solve.arrive.Goals as goal
 

@@ -1,12 +1,12 @@
 use Rattle.std.specs.Global.{Vec}
 use Rattle.std.proofs.lemmas.List.{length-map}
 use Rattle.po_live.specs.declared.solve.Due.{Due}
-use Rattle.po_model.specs.declared.pair.Live.{Live}
-use Rattle.std.proofs.Common.{List, length-append, ◌≡◌, ℕ, ◌+◌, ◌<◌, ◌≤◌, ◌∙◌, sym, refl, ap, length, map, arith, false}
+use Rattle.po_live.specs.declared.sets.LiveVars.{LiveVars}
+use Rattle.std.proofs.Common.{List, length-append, ◌≡◌, ℕ, ◌<◌, ◌≤◌, ◌∙◌, refl, ap, length, map, arith}
 use Rattle.po_model.specs.Blocks.{block_of, instrs_at}
 use Rattle.po_live.specs.Sets.{sets_any}
-use Rattle.po_model.specs.LiveSets.{holds_at}
-use Rattle.po_live.specs.Due.{is_due, is_in, vars_of, missing_below}
+use Rattle.po_live.specs.Sets.{holds_at}
+use Rattle.po_live.specs.Due.{is_due, is_in, vars_of}
 use Rattle.po_live.proofs.Graphs.{written_back}
 use Rattle.po_live.proofs.Paths.{is_read}
 use Rattle.po_live.proofs.Solved.{begun_blocks, due_popped, due_here, due_none, pred_below, preds_are, passed_on, ended}
@@ -35,7 +35,7 @@ spread-requires-clause-here c = λ p e.
     let list : c.in-Some.due.block < length c.in_ok-preds.preds.items = omega (arith, there, length-map c.args.blocks.now block_of, c.in_ok-preds.ensures.len) in
     let are = preds_are c.args.blocks.now c.in_ok-preds.preds.items c.in-Some.due.block c.index.result.now c.deref.result.now list (c.deref.ensures.value ∙ ap (λ (v : Vec ℕ). v.items) c.index.ensures) c.in_ok-preds.ensures.leads in
     let h = pred_below (map block_of c.args.blocks.now) c.in-Some.due.block (is_in c.deref.result.now) are p e in
-    omega (arith, h, length-map c.args.blocks.now block_of, c.passing.invariant.long, ap (λ (ls : List Live). length ls) c.deref_mut.ensures.value)
+    omega (arith, h, length-map c.args.blocks.now block_of, c.passing.invariant.long, ap (λ (ls : List LiveVars). length ls) c.deref_mut.ensures.value)
 
 pub passing-smaller : goal.passing-smaller
 passing-smaller c =

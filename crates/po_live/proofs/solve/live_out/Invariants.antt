@@ -1,6 +1,6 @@
-use Rattle.std.proofs.Common.{◌≡◌, ℕ, ◌+◌, length, map}
+use Rattle.std.proofs.Common.{◌≡◌, ◌+◌, length, map}
 use Rattle.po_model.specs.Blocks.{block_of}
-use Rattle.po_model.specs.LiveSets.{holds_at}
+use Rattle.po_live.specs.Sets.{holds_at}
 use Rattle.po_live.specs.Due.{is_due, vars_of, missing_below}
 use Rattle.po_live.proofs.Solved.{Going}
 use Rattle.po_live.proofs.solve.live_out.Given as goal

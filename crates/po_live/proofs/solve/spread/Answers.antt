@@ -1,8 +1,8 @@
-use Rattle.std.proofs.Common.{◌≡◌, ℕ, ◌+◌, ◌<◌, ◌≤◌, length, map, arith, slice_index_or}
+use Rattle.std.proofs.Common.{map, arith, slice_index_or}
 use Rattle.po_model.specs.Blocks.{block_of, instrs_at}
-use Rattle.po_model.specs.LiveSets.{holds_at}
+use Rattle.po_live.specs.Sets.{holds_at}
 use Rattle.po_live.specs.Sets.{sets_any}
-use Rattle.po_live.specs.Due.{is_due, missing_below}
+use Rattle.po_live.specs.Due.{is_due}
 use Rattle.po_live.proofs.Spreads.{in_at, more_out, more_work}
 use Rattle.po_live.proofs.solve.spread.Goals as goal
 

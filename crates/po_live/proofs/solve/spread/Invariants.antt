@@ -1,7 +1,7 @@
 use Rattle.std.proofs.Common.{◌≡◌, ℕ, ◌+◌, ◌≤◌, ◌||◌, ◌&&◌, not, true, List, take, length, map}
 use Rattle.po_model.specs.declared.var.Var.{Var}
 use Rattle.po_model.specs.Blocks.{block_of, instrs_at}
-use Rattle.po_model.specs.LiveSets.{holds_at}
+use Rattle.po_live.specs.Sets.{holds_at}
 use Rattle.po_live.specs.Sets.{var_eq, sets_any}
 use Rattle.po_live.specs.Due.{is_due, is_in, is_among, missing_below}
 use Rattle.po_live.proofs.solve.spread.Given as goal

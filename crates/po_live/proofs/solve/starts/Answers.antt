@@ -1,4 +1,4 @@
-use Rattle.po_model.specs.LiveSets.{holds}
+use Rattle.po_live.specs.Sets.{holds}
 use Rattle.po_live.specs.Due.{is_due}
 use Rattle.po_live.proofs.Spreads.{started}
 use Rattle.po_live.proofs.solve.starts.Goals as goal

@@ -1,6 +1,6 @@
-use Rattle.std.proofs.Common.{◌≡◌, ℕ, ◌∙◌, ap, length, arith, ◌||◌, ◌&&◌, not}
-use Rattle.po_model.specs.LiveAfter.{move_reads, move_sets, sets}
-use Rattle.po_model.specs.LiveSets.{holds}
+use Rattle.std.proofs.Common.{◌≡◌, ◌∙◌, ap, length, arith, ◌&&◌, not}
+use Rattle.po_model.specs.LiveAfter.{move_sets}
+use Rattle.po_live.specs.Sets.{holds}
 use Rattle.po_live.proofs.Moved.{all_moves_seen}
 use Rattle.po_live.proofs.uses.unset_all.Goals as goal
 
