@@ -11,4 +11,4 @@ mod lines;
 mod names;
 mod unit;
 
-pub use unit::emit;
+pub use unit::{emit, emit_by};

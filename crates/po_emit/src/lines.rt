@@ -6,6 +6,7 @@ ghost use Rattle.po_model.specs.Fit.{fit};
 ghost use Rattle.po_model.specs.UnitCodes.{unit_of};
 ghost use Rattle.po_model.specs.Assembly.{label_line, line_of, lines_from};
 ghost use Rattle.po_recog.specs.Operands.{fit_of};
+ghost use Rattle.po_recog.specs.Indexes.{IsIndexOf};
 ghost use Rattle.po_live.specs.Flags.{flag_at};
 ghost use Rattle.po_emit.specs.Regs.{machine_at};
 ghost use Rattle.po_emit.specs.Texts.{filled_from, line_with};
@@ -13,7 +14,7 @@ ghost use Rattle.po_emit.specs.Texts.{filled_from, line_with};
 use crate::fill::push_filled;
 use crate::names::push_label;
 use po_model::{Block, Machine, UnitCode};
-use po_recog::{Fit, recognise};
+use po_recog::{Fit, Index, recognise_by};
 use po_term::{Instr, Label, Transfer};
 use po_word::OutOfMemory;
 use std::alloc::Global;
@@ -72,17 +73,19 @@ fn push_found(
 fn push_line(
     alloc: Global,
     m: &Machine,
+    index: &Index,
     regs: &[u32],
     u: &UnitCode,
     xs: &[Transfer],
     cc_live: bool,
     out: &mut Vec<u8>,
 ) -> Result<(), OutOfMemory>
-    requires { length m.now.entries < 2 ^ 32 }
+    requires entries { length m.now.entries < 2 ^ 32 }
+    requires index { IsIndexOf m.now index.now }
     ensures ok { OnOk result (out.new.items ≡ out.old.items ++ line_of m.now (machine_at regs.now) (unit_of u.now) (fit m.now cc_live (moves_of xs.now))) }
     ensures err { OnErr result (StartsWith out.new.items out.old.items) }
 {
-    match recognise(alloc, m, xs, cc_live)? {
+    match recognise_by(alloc, m, index, xs, cc_live)? {
         Some(found) => push_found(m, regs, u, &found, out),
         None => Ok(()),
     }
@@ -102,19 +105,21 @@ fn cc_live_at(lives: &[bool], i: usize) -> bool
 pub fn push_lines(
     alloc: Global,
     m: &Machine,
+    index: &Index,
     regs: &[u32],
     u: &UnitCode,
     xs: &[Instr],
     lives: &[bool],
     out: &mut Vec<u8>,
 ) -> Result<(), OutOfMemory>
-    requires { length m.now.entries < 2 ^ 32 }
+    requires entries { length m.now.entries < 2 ^ 32 }
+    requires index { IsIndexOf m.now index.now }
     ensures ok { (live : ℕ → ℕ → Bool) (b : ℕ) → ((i : ℕ) → live b i ≡ flag_at lives.now i) →
         OnOk result (out.new.items ≡ out.old.items ++ lines_from m.now (machine_at regs.now) (unit_of u.now) live b 0 (instrs_of xs.now)) }
     ensures err { OnErr result (StartsWith out.new.items out.old.items) }
 {
     for (i, x) in xs.iter().enumerate() {
-        push_line(alloc, m, regs, u, &x.xs, cc_live_at(lives, i), out)?;
+        push_line(alloc, m, index, regs, u, &x.xs, cc_live_at(lives, i), out)?;
     }
     Ok(())
 }

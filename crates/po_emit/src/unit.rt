@@ -6,6 +6,7 @@ ghost use Rattle.po_model.specs.UnitCodes.{unit_of};
 ghost use Rattle.po_term.specs.Moves.{instrs_of};
 ghost use Rattle.po_model.specs.Assembly.{label_line, lines_from, blocks_from, IsAssembly};
 ghost use Rattle.po_live.specs.Flags.{flag_at, flags_at};
+ghost use Rattle.po_recog.specs.Indexes.{IsIndexOf};
 ghost use Rattle.po_emit.specs.Regs.{machine_at};
 
 use crate::lines::{push_label_line, push_lines};
@@ -13,6 +14,7 @@ use crate::names::machine_regs;
 use po_assign::Placed;
 use po_live::cc_live_after;
 use po_model::{Block, Machine, UnitCode};
+use po_recog::Index;
 use po_word::OutOfMemory;
 use std::alloc::Global;
 
@@ -30,36 +32,40 @@ fn flags_at(lives: &[Vec<bool>], b: usize) -> &[bool]
 fn push_block(
     alloc: Global,
     m: &Machine,
+    index: &Index,
     regs: &[u32],
     u: &UnitCode,
     block: &Block,
     lives: &[bool],
     out: &mut Vec<u8>,
 ) -> Result<(), OutOfMemory>
-    requires { length m.now.entries < 2 ^ 32 }
+    requires entries { length m.now.entries < 2 ^ 32 }
+    requires index { IsIndexOf m.now index.now }
     ensures ok { (live : ℕ → ℕ → Bool) (b : ℕ) → ((i : ℕ) → live b i ≡ flag_at lives.now i) →
         OnOk result (out.new.items ≡ out.old.items ++ label_line (unit_of u.now) block.now.label ++ lines_from m.now (machine_at regs.now) (unit_of u.now) live b 0 (instrs_of block.now.instrs.items)) }
     ensures err { OnErr result (StartsWith out.new.items out.old.items) }
 {
     push_label_line(u, block.label, out)?;
-    push_lines(alloc, m, regs, u, &block.instrs, lives, out)
+    push_lines(alloc, m, index, regs, u, &block.instrs, lives, out)
 }
 
 /// Writes the lines of all blocks.
 fn push_blocks(
     alloc: Global,
     m: &Machine,
+    index: &Index,
     regs: &[u32],
     u: &UnitCode,
     lives: &[Vec<bool>],
     out: &mut Vec<u8>,
 ) -> Result<(), OutOfMemory>
-    requires { length m.now.entries < 2 ^ 32 }
+    requires entries { length m.now.entries < 2 ^ 32 }
+    requires index { IsIndexOf m.now index.now }
     ensures ok { OnOk result (out.new.items ≡ out.old.items ++ blocks_from m.now (machine_at regs.now) (unit_of u.now) (λ b i. flag_at (flags_at lives.now b) i) 0 (code_of u.now.code)) }
     ensures err { OnErr result (StartsWith out.new.items out.old.items) }
 {
     for (b, block) in u.code.blocks.iter().enumerate() {
-        push_block(alloc, m, regs, u, block, flags_at(lives, b), out)?;
+        push_block(alloc, m, index, regs, u, block, flags_at(lives, b), out)?;
     }
     Ok(())
 }
@@ -75,16 +81,45 @@ fn push_name_line(u: &UnitCode, out: &mut Vec<u8>) -> Result<(), OutOfMemory>
 }
 
 /// Writes the assembly of a unit, and after `OutOfMemory` maybe a part of it.
-fn push_text(alloc: Global, m: &Machine, p: &Placed, out: &mut Vec<u8>) -> Result<(), OutOfMemory>
+fn push_text(
+    alloc: Global,
+    m: &Machine,
+    index: &Index,
+    p: &Placed,
+    out: &mut Vec<u8>,
+) -> Result<(), OutOfMemory>
     requires code { IsCode (code_of p.now.unit.code) }
     requires entries { length m.now.entries < 2 ^ 32 }
+    requires index { IsIndexOf m.now index.now }
     ensures ok { OnOk result ((text : List ℕ) × IsAssembly m.now p.now.regs.items (unit_of p.now.unit) text × (out.new.items ≡ out.old.items ++ text)) }
     ensures err { OnErr result (StartsWith out.new.items out.old.items) }
 {
     let regs = machine_regs(alloc, &p.regs)?;
     let lives = cc_live_after(alloc, &p.unit.code)?;
     push_name_line(&p.unit, out)?;
-    push_blocks(alloc, m, &regs, &p.unit, &lives.after, out)
+    push_blocks(alloc, m, index, &regs, &p.unit, &lives.after, out)
+}
+
+/// `emit` by an index of the machine, made once for many units (docs/DESCRIPTION.md, "Templates").
+pub fn emit_by(
+    alloc: Global,
+    m: &Machine,
+    index: &Index,
+    p: &Placed,
+    out: &mut Vec<u8>,
+) -> Result<(), OutOfMemory>
+    requires code { IsCode (code_of p.now.unit.code) }
+    requires entries { length m.now.entries < 2 ^ 32 }
+    requires index { IsIndexOf m.now index.now }
+    ensures ok { OnOk result ((text : List ℕ) × IsAssembly m.now p.now.regs.items (unit_of p.now.unit) text × (out.new.items ≡ out.old.items ++ text)) }
+    ensures err { OnErr result (out.new.items ≡ out.old.items) }
+{
+    let before = out.len();
+    let written = push_text(alloc, m, index, p, out);
+    if written.is_err() {
+        out.truncate(before);
+    }
+    written
 }
 
 /// Writes the assembly of a unit at the end of `out`: the line `NAME:`, for each block the line `NAME.LABEL:` where it has a label, and
@@ -97,10 +132,6 @@ pub fn emit(alloc: Global, m: &Machine, p: &Placed, out: &mut Vec<u8>) -> Result
     ensures ok { OnOk result ((text : List ℕ) × IsAssembly m.now p.now.regs.items (unit_of p.now.unit) text × (out.new.items ≡ out.old.items ++ text)) }
     ensures err { OnErr result (out.new.items ≡ out.old.items) }
 {
-    let before = out.len();
-    let written = push_text(alloc, m, p, out);
-    if written.is_err() {
-        out.truncate(before);
-    }
-    written
+    let index = Index::new(alloc, m)?;
+    emit_by(alloc, m, &index, p, out)
 }

@@ -4,3 +4,4 @@ pub mod Agreed
 pub mod Clobbers
 pub mod Limits
 pub mod Passed
+pub mod Longest

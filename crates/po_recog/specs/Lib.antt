@@ -1,6 +1,5 @@
 pub mod Operands
 pub mod Limits
 pub mod Taken
-pub mod Filled
 pub mod Heads
 pub mod Indexes

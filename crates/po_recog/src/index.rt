@@ -1,6 +1,6 @@
 //! An index of a machine's entries: the head of each, made once, so that an entry with another head is passed over without a
 //! look at its pattern. Entries are still tried in order.
-ghost use Rattle.std.specs.Prelude.{◌≡◌, ◌<◌, ◌^◌, ◌++◌, ◌∷◌, [], length, map, IfOk, OnOk, is_some};
+ghost use Rattle.std.specs.Prelude.{◌≡◌, ◌<◌, ◌^◌, ◌++◌, ◌∷◌, [], length, map, max, IfOk, OnOk, is_some};
 ghost use Rattle.std.specs.Option.{option_map};
 ghost use Rattle.po_term.specs.Moves.{moves_of};
 ghost use Rattle.po_term.specs.Kinds.{words};
@@ -9,7 +9,7 @@ ghost use Rattle.po_model.specs.Parts.{code_leaves};
 ghost use Rattle.po_recog.specs.Operands.{operands_in, fit_from, fit_of};
 ghost use Rattle.po_recog.specs.Taken.{outcome};
 ghost use Rattle.po_recog.specs.Heads.{entry_head, moves_head};
-ghost use Rattle.po_recog.specs.Indexes.{IsIndexOf, found_with};
+ghost use Rattle.po_recog.specs.Indexes.{IsIndexOf, most_transfers, found_with};
 
 use crate::head::{Head, head_of, head_of_pattern, is_same};
 use crate::walk::takes_moves;
@@ -19,10 +19,11 @@ use po_term::Transfer;
 use po_word::{OutOfMemory, push};
 use std::alloc::Global;
 
-/// The heads of a machine's entries (docs/DESCRIPTION.md, "What fits").
+/// The heads of a machine's entries, and how many transfers the longest has (docs/DESCRIPTION.md, "What fits").
 #[derive(Drop)]
 pub struct Index {
     heads: Vec<Head>,
+    most: usize,
 }
 
 fn heads_of(alloc: Global, entries: &[Entry]) -> Result<Vec<Head>, OutOfMemory>
@@ -35,13 +36,38 @@ fn heads_of(alloc: Global, entries: &[Entry]) -> Result<Vec<Head>, OutOfMemory>
     Ok(heads)
 }
 
+fn larger(m: usize, n: usize) -> usize
+    ensures { result ≡ max m n }
+{
+    if m < n { n } else { m }
+}
+
+/// The most transfers that an entry has.
+fn most_of(entries: &[Entry]) -> usize
+    ensures { result ≡ most_transfers entries.now }
+{
+    let mut most = 0;
+    for e in entries {
+        most = larger(most, e.pattern.as_slice().len());
+    }
+    most
+}
+
 impl Index {
     /// The index of a machine's entries (docs/DESCRIPTION.md, "What fits").
     pub fn new(alloc: Global, m: &Machine) -> Result<Index, OutOfMemory>
         ensures { IfOk result (λ index. IsIndexOf m.now index) }
     {
         let heads = heads_of(alloc, m.entries.as_slice())?;
-        Ok(Index { heads })
+        let most = most_of(m.entries.as_slice());
+        Ok(Index { heads, most })
+    }
+
+    /// How many transfers the longest entry has: no entry fits a list of more (docs/DESCRIPTION.md, "What fits").
+    pub fn most(&self) -> usize
+        ensures { result ≡ self.now.most }
+    {
+        self.most
     }
 }
 
@@ -121,7 +147,23 @@ pub fn recognise_by(
     }
 }
 
-/// `is_recognised` by an index of the machine (docs/DESCRIPTION.md, "What fits").
+/// The first entry of a machine that fits a list of transfers, where `cc_live` says whether `cc` is live behind them
+/// (docs/DESCRIPTION.md, "What fits"). None exactly where no entry fits. The machine has fewer than 2^32 entries. It makes
+/// an index of its own: for many lists make one, and call `recognise_by`. It fails only where memory is refused.
+pub fn recognise(
+    alloc: Global,
+    m: &Machine,
+    xs: &[Transfer],
+    cc_live: bool,
+) -> Result<Option<Fit>, OutOfMemory>
+    requires { length m.now.entries < 2 ^ 32 }
+    ensures { IfOk result (λ found. option_map fit_of found ≡ option_map fit_from (fit m.now cc_live (moves_of xs.now))) }
+{
+    let index = Index::new(alloc, m)?;
+    recognise_by(alloc, m, &index, xs, cc_live)
+}
+
+/// Whether some entry fits, by an index of the machine (docs/DESCRIPTION.md, "What fits"). It takes no memory.
 pub fn is_recognised_by(m: &Machine, index: &Index, xs: &[Transfer], cc_live: bool) -> bool
     requires few { length m.now.entries < 2 ^ 32 }
     requires index { IsIndexOf m.now index.now }

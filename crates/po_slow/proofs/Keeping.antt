@@ -8,8 +8,7 @@ use Rattle.std.proofs.lemmas.List.{length-drop}
 use Rattle.std.proofs.lemmas.List.Elements.{All-nil, All-cons, All-head, All-tail, All-append, All-weaker}
 use Rattle.po_term.specs.Form.{WellFormed}
 use Rattle.po_model.specs.declared.var.Var.{Var}
-use Rattle.std.specs.Global.{Vec}
-use Rattle.po_model.specs.declared.pair.Live.{Live}
+use Rattle.po_live.specs.declared.parts.LiveList.{LiveList}
 use Rattle.po_model.specs.declared.machine.Machine.{Machine}
 use Rattle.po_model.specs.Machines.{IsMachine}
 use Rattle.po_term.specs.Moves.{PlainInstr}
@@ -22,7 +21,8 @@ use Rattle.po_slow.specs.KeepsEffect.{KeepsEffect}
 use Rattle.po_slow.proofs.Places.{ready_nil, none_done, at_end_next}
 use Rattle.po_slow.proofs.Sound.{answer_keeps}
 use Rattle.po_slow.proofs.Targets.{pair_well_formed}
-use Rattle.po_slow.specs.States.{place_in, scan_by, told, HasPair, IsAnswer, IsTried, CanAnswer, instrs_in, IsFormedList, IsFormedScan}
+use Rattle.po_live.specs.Parts.{tells}
+use Rattle.po_slow.specs.States.{place_in, scan_by, HasPair, IsAnswer, IsTried, CanAnswer, instrs_in, IsFormedList, IsFormedScan}
 use Rattle.po_model.specs.Parts.{ending_of}
 use Rattle.po_model.specs.UnitCodes.{IsFormedCode}
 
@@ -141,7 +141,7 @@ less_or_not m zero = inr (omega arith)
 less_or_not zero (suc n) = inl (omega arith)
 less_or_not (suc m) (suc n) = elim (less_or_not m n) [ inl h ↦ inl (omega arith) | inr h ↦ inr (omega arith) ]
 
-pub has_pair : (code : List PlainBlock) (lives : List (Vec Live)) (b : ℕ) (at : Standing) (o : Answer) → CanAnswer (pair_ready (scan_by code lives b at)) o → HasPair code b at
+pub has_pair : (code : List PlainBlock) (lives : LiveList) (b : ℕ) (at : Standing) (o : Answer) → CanAnswer (pair_ready (scan_by code lives b at)) o → HasPair code b at
 has_pair code lives b at o can =
     let block = go_block (drop b code) (sym (length-drop b code)) can in
     record {
@@ -150,7 +150,7 @@ has_pair code lives b at o can =
       next = elim (less_or_not at.next (length (instrs_at code b))) [ inl h ↦ h | inr h ↦ absurd (cannot (scan_by code lives b at) o can (none_at_end (scan_by code lives b at) (at_end_next code lives b at block h))) ];
     }
   where
-    go_block : (l : List PlainBlock) → length code - b ≡ length l → CanAnswer (pair_ready (place_in (told lives) b at.done at.next at.changed (reverse (take b code)) l)) o → b < length code
+    go_block : (l : List PlainBlock) → length code - b ≡ length l → CanAnswer (pair_ready (place_in (tells lives) b at.done at.next at.changed (reverse (take b code)) l)) o → b < length code
     go_block [] e h = absurd h
     go_block (x ∷ xs) e h = omega arith
 

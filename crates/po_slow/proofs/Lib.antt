@@ -4,6 +4,8 @@ pub mod Distinct
 pub mod Blockwise
 -- What becomes of a pair
 pub mod PairWith
+pub mod PairAhead
+pub mod Longest
 pub mod Sound
 pub mod Targets
 pub mod Dead

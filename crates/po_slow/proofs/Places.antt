@@ -1,13 +1,13 @@
 -- Where a scan stands in a code, by the number of the block.
 use Rattle.std.proofs.Common.{◌≡◌, ℕ, zero, suc, ◌-◌, ◌<◌, ◌≤◌, Bool, List, [], ◌∷◌, ◌++◌, length, reverse, take, drop, None, refl, sym, ◌∙◌, ap, subst, arith}
 use Rattle.std.proofs.lemmas.List.{append-nil, reverse-reverse, take-append-drop, take-take, drop_all, length-take, length-drop}
-use Rattle.std.specs.Global.{Vec}
-use Rattle.po_model.specs.declared.pair.Live.{Live}
+use Rattle.po_live.specs.declared.parts.LiveList.{LiveList}
 use Rattle.po_model.specs.declared.var.Var.{Var}
 use Rattle.po_model.specs.Blocks.{PlainBlock, instrs_at}
 use Rattle.po_model.specs.Scanned.{InBlock, Scan, Within, Finished, instrs_ahead, blocks_ahead, ready, pair_ready, IsAtEnd}
 use Rattle.po_slow.specs.declared.block.Standing.{Standing}
-use Rattle.po_slow.specs.States.{stand_at, place_in, place_at, told, scan_by, cut, IsFinished, IsFormedScan, IsPlaced, IsCut}
+use Rattle.po_live.specs.Parts.{tells}
+use Rattle.po_slow.specs.States.{stand_at, place_in, place_at, scan_by, cut, IsFinished, IsFormedScan, IsPlaced, IsCut}
 use Rattle.po_term.specs.Moves.{PlainInstr}
 
 -- at the finish all blocks are passed
@@ -36,10 +36,10 @@ pub ready_nil : (ds : List PlainInstr) → ready ds [] ≡ None
 ready_nil [] = refl
 ready_nil (d ∷ ds) = refl
 
-module _ (code : List PlainBlock) (lives : List (Vec Live)) (b : ℕ) (at : Standing) (h : b < length code) where
+module _ (code : List PlainBlock) (lives : LiveList) (b : ℕ) (at : Standing) (h : b < length code) where
   -- where it stands, before these blocks
   abbrev before : List PlainBlock → Scan
-  before xs = place_in (told lives) b at.done at.next at.changed (reverse (take b code)) xs
+  before xs = place_in (tells lives) b at.done at.next at.changed (reverse (take b code)) xs
 
   -- no pair is ready where nothing is done
   pub none_done : at.done ≡ 0 → pair_ready (scan_by code lives b at) ≡ None
@@ -47,14 +47,14 @@ module _ (code : List PlainBlock) (lives : List (Vec Live)) (b : ℕ) (at : Stan
       let r = block_at code b h in
       let xs = r.block.instrs in
       subst (λ l. pair_ready (before l) ≡ None) (sym r.dropped)
-      (ap (λ n. ready (reverse (take n xs)) (instrs_ahead (told lives b) at.next (drop at.next xs))) e)
+      (ap (λ n. ready (reverse (take n xs)) (instrs_ahead (tells lives b) at.next (drop at.next xs))) e)
 
   -- the block is at its end where nothing is to come, and so it is where nothing is done
   pub at_end_next : length (instrs_at code b) ≤ at.next → IsAtEnd (scan_by code lives b at)
   at_end_next e =
       let r = block_at code b h in
       let all : drop at.next r.block.instrs ≡ [] = drop_all at.next r.block.instrs (omega (arith, ap length r.instrs)) in
-      subst (λ l. IsAtEnd (before l)) (sym r.dropped) (ap (λ l. instrs_ahead (told lives b) at.next l) all)
+      subst (λ l. IsAtEnd (before l)) (sym r.dropped) (ap (λ l. instrs_ahead (tells lives b) at.next l) all)
 
   pub at_end_done : IsFormedScan (scan_by code lives b at) → at.done ≡ 0 → IsAtEnd (scan_by code lives b at)
   at_end_done f e =
@@ -65,10 +65,10 @@ module _ (code : List PlainBlock) (lives : List (Vec Live)) (b : ℕ) (at : Stan
 -- a scan at the end of a block
 
 -- it is within a block
-pub end_block : (code : List PlainBlock) (lives : List (Vec Live)) (b : ℕ) (at : Standing) → IsAtEnd (scan_by code lives b at) → b < length code
+pub end_block : (code : List PlainBlock) (lives : LiveList) (b : ℕ) (at : Standing) → IsAtEnd (scan_by code lives b at) → b < length code
 end_block code lives b at h = go (drop b code) (sym (length-drop b code)) h
   where
-    go : (l : List PlainBlock) → length code - b ≡ length l → IsAtEnd (place_in (told lives) b at.done at.next at.changed (reverse (take b code)) l) → b < length code
+    go : (l : List PlainBlock) → length code - b ≡ length l → IsAtEnd (place_in (tells lives) b at.done at.next at.changed (reverse (take b code)) l) → b < length code
     go [] e h = absurd h
     go (x ∷ xs) e h = omega arith
 
@@ -126,27 +126,28 @@ cut_stand live xs done next changed e =
     (λ i. record { done = reverse (d i); rest = (r ∙ sym e) i; changed = changed })
 
 -- a scan at the end of a block stays where it is as the block is cut
-pub cut_same : (code : List PlainBlock) (lives : List (Vec Live)) (b : ℕ) (at : Standing) → IsAtEnd (scan_by code lives b at)
-    → place_at (cut code b at.done) (told lives) b at.done at.done at.changed ≡ scan_by code lives b at
+pub cut_same : (code : List PlainBlock) (lives : LiveList) (b : ℕ) (at : Standing) → IsAtEnd (scan_by code lives b at)
+    → place_at (cut code b at.done) (tells lives) b at.done at.done at.changed ≡ scan_by code lives b at
 cut_same code lives b at e =
     let r = block_at code b (end_block code lives b at e) in
     let x = r.block in
-    let here : InBlock = record { label = x.label; stand = stand_at x.instrs (told lives b) at.done at.next at.changed; passed = reverse (take b code); coming = blocks_ahead (told lives) (suc b) (drop (suc b) code) } in
-    let old : scan_by code lives b at ≡ Within here = ap (place_in (told lives) b at.done at.next at.changed (reverse (take b code))) r.dropped in
+    let here : InBlock = record { label = x.label; stand = stand_at x.instrs (tells lives b) at.done at.next at.changed; passed = reverse (take b code); coming = blocks_ahead (tells lives) (suc b) (drop (suc b) code) } in
+    let old : scan_by code lives b at ≡ Within here = ap (place_in (tells lives) b at.done at.next at.changed (reverse (take b code))) r.dropped in
     let none = rest_at_end (scan_by code lives b at) e here old in
-    (λ i. place_in (told lives) b at.done at.done at.changed (reverse (cut_take code b at.done i)) (cut_drop code b at.done x (drop (suc b) code) r.dropped i))
-    ∙ (ap (λ st. Within (record { label = x.label; stand = st; passed = reverse (take b code); coming = blocks_ahead (told lives) (suc b) (drop (suc b) code) })) (cut_stand (told lives b) x.instrs at.done at.next at.changed none) ∙ sym old)
+    (λ i. place_in (tells lives) b at.done at.done at.changed (reverse (cut_take code b at.done i)) (cut_drop code b at.done x (drop (suc b) code) r.dropped i))
+    ∙ (ap (λ st. Within (record { label = x.label; stand = st; passed = reverse (take b code); coming = blocks_ahead (tells lives) (suc b) (drop (suc b) code) })) (cut_stand (tells lives b) x.instrs at.done at.next at.changed none) ∙ sym old)
 
-pub cut_placed : (code : List PlainBlock) (lives : List (Vec Live)) (b : ℕ) (at : Standing) → IsPlaced code lives b at → IsPlaced (cut code b at.done) lives b (record { done = at.done; next = at.done; changed = at.changed })
+pub cut_placed : (code : List PlainBlock) (lives : LiveList) (b : ℕ) (at : Standing) → IsPlaced code lives b at → IsPlaced (cut code b at.done) lives b (record { done = at.done; next = at.done; changed = at.changed })
 cut_placed code lives b at p = record {
   blocks = omega (arith, cut_length code b at.done, p.blocks);
+  list = p.list;
   sets = p.sets ∙ sym (cut_length code b at.done);
   lengths = λ c le. omega (arith, cut_fewer code b at.done c, p.lengths c le);
   done = omega arith;
   next = omega (arith, ap length (cut_at code b at.done), length-take at.done (instrs_at code b), p.done, p.next);
 }
 
-pub cut_cut : (code : List PlainBlock) (lives : List (Vec Live)) (b : ℕ) (at : Standing) → b < length code → IsPlaced code lives b at → IsCut (cut code b at.done) b (record { done = at.done; next = at.done; changed = at.changed })
+pub cut_cut : (code : List PlainBlock) (lives : LiveList) (b : ℕ) (at : Standing) → b < length code → IsPlaced code lives b at → IsCut (cut code b at.done) b (record { done = at.done; next = at.done; changed = at.changed })
 cut_cut code lives b at h p = record {
   block = omega (arith, cut_length code b at.done);
   done = omega (arith, ap length (cut_at code b at.done), length-take at.done (instrs_at code b), p.done, p.next);

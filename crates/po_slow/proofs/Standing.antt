@@ -1,12 +1,12 @@
 -- How the place of the scan of a block moves as instructions are written and counted.
-use Rattle.std.proofs.Common.{◌≡◌, ℕ, zero, suc, ◌+◌, ◌-◌, ◌<◌, ◌≤◌, Bool, true, false, List, [], ◌∷◌, length, reverse, take, drop, set, get_or, Some, refl, sym, ◌∙◌, ap, arith, add-one}
+use Rattle.std.proofs.Common.{◌≡◌, ℕ, ◌+◌, ◌-◌, ◌<◌, ◌≤◌, Bool, true, false, List, [], ◌∷◌, length, reverse, take, drop, set, get_or, Some, refl, sym, ◌∙◌, ap, arith, add-one}
 use Rattle.std.proofs.lemmas.List.{length-set, length-map, map-set, set-set, set_comm, set-get_or, get_or-set_other, take-set-le, take_more_set, take_more, drop-set-lt, drop-set, drop_more, get_or-map, get_or_default, reverse-append}
 use Rattle.po_term.specs.declared.term.Reg.{Reg as Register}
 use Rattle.po_term.specs.declared.transfer.Instr.{Instr}
 use Rattle.po_term.specs.Moves.{instr_of, instrs_of, PlainInstr}
 use Rattle.po_model.specs.declared.var.Var.{Var}
-use Rattle.po_model.specs.declared.pair.Live.{Live}
-use Rattle.po_model.specs.LiveSets.{holds, holds_at}
+use Rattle.po_live.specs.declared.parts.LiveAt.{LiveAt}
+use Rattle.po_live.specs.Parts.{live_in}
 use Rattle.po_model.specs.declared.pair.Pair.{Pair}
 use Rattle.po_model.specs.Pairs.{PlainPair, pair_of}
 use Rattle.po_model.specs.Combined.{Gone, AsOne}
@@ -54,11 +54,6 @@ done_at xs last done d n h e =
     ∙ ap (λ y. y ∷ reverse (take last (instrs_of xs))) (get_or-map instr_of xs last d (instr_of d) h ∙ sym (ap instr_of e))
 
 -- On to the next pair
-
-pub live_at : (ls : List Live) (n : ℕ) (l : Live) → n < length ls → l ≡ get_or ls n l → holds l ≡ holds_at ls n
-live_at [] n l h e = absurd (omega arith)
-live_at (k ∷ ls) zero l h e = ap holds e
-live_at (k ∷ ls) (suc n) l h e = live_at ls n l (omega arith) e
 
 onward_dead : (done : List PlainInstr) (x : Ahead) (xs : List Ahead) (changed : Bool) → is_dead x.live x.instr ≡ true → onward done (x ∷ xs) changed ≡ onward done xs true
 onward_dead [] x xs changed h = rw h refl
@@ -150,24 +145,14 @@ one_stand live xs i done next changed some o h =
 same_pair : {a b c d : PlainInstr} {r s : List Register} {v w : Bool} → a ≡ c → b ≡ d → r ≡ s → v ≡ w → ◌≡◌ {A = PlainPair} (record { a = a; b = b; regs = r; cc = v }) (record { a = c; b = d; regs = s; cc = w })
 same_pair e f g h = rw (e, f, g, h) refl
 
--- a copy of the pair, or the pair itself
-pub pair_is_ready : (ls : List Live) (xs : List Instr) (done next : ℕ) (d x : Instr) (l : Live) (p : Pair) → 0 < done → done ≤ next → next < length xs → next < length ls
-    → d ≡ get_or xs (done - 1) d → x ≡ get_or xs next x → l ≡ get_or ls next l
-    → instr_of p.a ≡ instr_of d → instr_of p.b ≡ instr_of x → p.live.regs.keys ≡ put_live (holds l) (instr_of x) (put_live (holds l) (instr_of d) []) → p.live.cc ≡ l.cc
-    → ready (reverse (take done (instrs_of xs))) (instrs_ahead (holds_at ls) next (drop next (instrs_of xs))) ≡ Some (pair_of p)
-pair_is_ready ls xs done next d x l p some o h k d_is x_is l_is a b regs cc =
+-- a copy of the pair
+pub pair_is_ready : (live : ℕ → Var → Bool) (xs : List Instr) (done next : ℕ) (d x : Instr) (l : LiveAt) (p : Pair) → 0 < done → done ≤ next → next < length xs
+    → d ≡ get_or xs (done - 1) d → x ≡ get_or xs next x → live_in l ≡ live next
+    → instr_of p.a ≡ instr_of d → instr_of p.b ≡ instr_of x → p.live.regs.keys ≡ put_live (live_in l) (instr_of x) (put_live (live_in l) (instr_of d) []) → p.live.cc ≡ l.cc
+    → ready (reverse (take done (instrs_of xs))) (instrs_ahead live next (drop next (instrs_of xs))) ≡ Some (pair_of p)
+pair_is_ready live xs done next d x l p some o h d_is x_is l_is a b regs cc =
     let ds = done_at xs (done - 1) done d (omega arith) (omega arith) d_is in
-    let rs = ahead_at (holds_at ls) xs next x h x_is in
-    let z : Ahead = record { instr = instr_of x; live = holds l } in
+    let rs = ahead_at live xs next x h x_is in
+    let z : Ahead = record { instr = instr_of x; live = live_in l } in
     let same : pair_with (instr_of d) z ≡ pair_of p = sym (same_pair a b regs cc) in
-    (λ i. ready (ds i) (rs i)) ∙ (ap (λ live. Some (pair_with (instr_of d) (record { instr = instr_of x; live = live }))) (sym (live_at ls next l k l_is)) ∙ ap Some same)
-
--- two instructions that are taken out, and put back
-pub put_back_same : (xs ys zs : List Instr) (i j : ℕ) (a b : Instr) → i < j → j < length xs → a ≡ get_or xs i a → (e : Instr) × (ys ≡ set xs i e) → b ≡ get_or ys j b → (f : Instr) × (zs ≡ set ys j f)
-    → set (set zs i a) j b ≡ xs
-put_back_same xs ys zs i j a b lt h a_is (e, ys_is) b_is (f, zs_is) =
-    ap (λ l. set (set l i a) j b) (zs_is ∙ ap (λ l. set l j f) ys_is)
-    ∙ (ap (λ l. set l j b) (set_comm (set xs i e) j i f a (omega arith))
-    ∙ (set-set (set (set xs i e) i a) j f b
-    ∙ (ap (λ l. set l j b) (set-set xs i e a ∙ (ap (set xs i) a_is ∙ set-get_or xs i a))
-    ∙ (ap (set xs j) (b_is ∙ (ap (λ l. get_or l j b) ys_is ∙ get_or-set_other xs i j e b (omega arith))) ∙ set-get_or xs j b))))
+    (λ i. ready (ds i) (rs i)) ∙ (ap (λ lives. Some (pair_with (instr_of d) (record { instr = instr_of x; live = lives }))) (sym l_is) ∙ ap Some same)

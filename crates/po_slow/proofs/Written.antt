@@ -7,21 +7,16 @@ use Rattle.po_term.specs.declared.transfer.Instr.{Instr}
 use Rattle.po_term.specs.Moves.{instr_of, instrs_of, PlainInstr}
 use Rattle.po_model.specs.declared.code.Block.{Block}
 use Rattle.po_model.specs.declared.machine.Machine.{Machine}
-use Rattle.po_model.specs.declared.pair.Live.{Live}
+use Rattle.po_live.specs.declared.parts.LiveList.{LiveList}
 use Rattle.po_model.specs.declared.var.Var.{Var}
 use Rattle.po_model.specs.Blocks.{PlainBlock, block_of, instrs_at}
-use Rattle.po_model.specs.LiveSets.{holds_at, lives_at}
 use Rattle.po_model.specs.Scanned.{Stand, Scan, Within, Finished, settled, after_try, ready, pair_ready, instrs_ahead, blocks_ahead}
 use Rattle.po_slow.specs.declared.block.Standing.{Standing}
-use Rattle.po_slow.specs.States.{stand_at, on, place_in, place_at, told, scan_by, within, cut, IsAnswer, IsTriedIn, IsTried, IsPlaced}
+use Rattle.po_live.specs.Parts.{tells, HasParts}
+use Rattle.po_slow.specs.States.{stand_at, on, place_in, place_at, scan_by, within, cut, IsAnswer, IsTriedIn, IsTried, IsPlaced}
 use Rattle.po_model.specs.Combined.{Answer}
 
--- the sets and the instructions of the b-th block
-pub lives_get : (lives : List (Vec Live)) (b : ℕ) (v : Vec Live) → b < length lives → lives_at lives b ≡ (get_or lives b v).items
-lives_get [] b v h = absurd (omega arith)
-lives_get (x ∷ xs) zero v h = refl
-lives_get (x ∷ xs) (suc b) v h = lives_get xs b v (omega arith)
-
+-- the instructions of the b-th block
 pub instrs_get : (blocks : List Block) (b : ℕ) (x : Block) → b < length blocks → instrs_at (map block_of blocks) b ≡ instrs_of (get_or blocks b x).instrs.items
 instrs_get [] b x h = absurd (omega arith)
 instrs_get (y ∷ ys) zero x h = refl
@@ -35,18 +30,18 @@ pub code_with : (v : Vec Block) (ws : List Block) → length ws ≡ length v.ite
 code_with v ws n = ap (map block_of) (with_items_is v ws (n ∙ sym v.ok.0))
 
 -- where a scan stands in them
-module _ (v : Vec Block) (ws xs : List Block) (lives ls : List (Vec Live)) (n : length ws ≡ length xs) (xs_are : xs ≡ v.items) (ls_are : ls ≡ lives) where
+module _ (v : Vec Block) (ws xs : List Block) (lives : LiveList) (n : length ws ≡ length xs) (xs_are : xs ≡ v.items) where
   blocks_are : map block_of (with_items v ws).items ≡ map block_of ws
   blocks_are = code_with v ws (n ∙ ap length xs_are)
 
-  pub old_place : (b : ℕ) (at : Standing) → scan_by (map block_of xs) ls b at ≡ scan_by (map block_of v.items) lives b at
-  old_place b at = (λ i. scan_by (map block_of (xs_are i)) (ls_are i) b at)
+  pub old_place : (b : ℕ) (at : Standing) → scan_by (map block_of xs) lives b at ≡ scan_by (map block_of v.items) lives b at
+  old_place b at = ap (λ l. scan_by (map block_of l) lives b at) xs_are
 
-  pub new_place : (b : ℕ) (at : Standing) → scan_by (map block_of (with_items v ws).items) lives b at ≡ scan_by (map block_of ws) ls b at
-  new_place b at = (λ i. scan_by (blocks_are i) (sym ls_are i) b at)
+  pub new_place : (b : ℕ) (at : Standing) → scan_by (map block_of (with_items v ws).items) lives b at ≡ scan_by (map block_of ws) lives b at
+  new_place b at = ap (λ code. scan_by code lives b at) blocks_are
 
-  pub new_placed : (b : ℕ) (at : Standing) → IsPlaced (map block_of ws) ls b at → IsPlaced (map block_of (with_items v ws).items) lives b at
-  new_placed b at p = subst (λ code. IsPlaced code lives b at) (sym blocks_are) (subst (λ l. IsPlaced (map block_of ws) l b at) ls_are p)
+  pub new_placed : (b : ℕ) (at : Standing) → IsPlaced (map block_of ws) lives b at → IsPlaced (map block_of (with_items v ws).items) lives b at
+  new_placed b at p = subst (λ code. IsPlaced code lives b at) (sym blocks_are) p
 
 -- how many instructions each block has stays where it stays in the block that is written
 pub lengths_set : (blocks : List Block) (b : ℕ) (x : Block) → length (instrs_of x.instrs.items) ≡ length (instrs_at (map block_of blocks) b) → (c : ℕ) → length (instrs_at (map block_of (set blocks b x)) c) ≡ length (instrs_at (map block_of blocks) c)
@@ -81,37 +76,38 @@ pub settled_within : (o : Answer) (s : Scan) → within (on (settled o)) s ≡ a
 settled_within o (Within s) = refl
 settled_within o (Finished code) = refl
 
-module _ (blocks : List Block) (lives : List (Vec Live)) (b : ℕ) (r : Block) (v : Vec Live) where
+module _ (blocks : List Block) (lives : LiveList) (b : ℕ) (r : Block) where
   abbrev here : Block
   here = get_or blocks b r
 
   abbrev pub written : List Instr → List Block
   written ws = set blocks b (record { label = here.label; instrs = with_items here.instrs ws })
 
-  -- how many instructions and sets there are
+  -- how many instructions there are, and that they have their parts
   pub instrs_here : (xs : List Instr) → b < length blocks → xs ≡ here.instrs.items → length (instrs_at (map block_of blocks) b) ≡ length xs
   instrs_here xs h x_is = ap length (instrs_get blocks b r h) ∙ (length-map here.instrs.items instr_of ∙ ap length (sym x_is))
 
-  pub sets_here : (xs : List Instr) (ls : List Live) (at : Standing) → b < length blocks → xs ≡ here.instrs.items → ls ≡ (get_or lives b v).items → IsPlaced (map block_of blocks) lives b at → length xs ≤ length ls
-  sets_here xs ls at h x_is l_is p =
-      let n : length ls ≡ length (lives_at lives b) = ap length (l_is ∙ sym (lives_get lives b v (omega (arith, p.sets, length-map blocks block_of)))) in
-      omega (arith, n, p.lengths b (omega arith), instrs_here xs h x_is)
+  pub parts_here : (xs : List Instr) (at : Standing) → b < length blocks → xs ≡ here.instrs.items → IsPlaced (map block_of blocks) lives b at → HasParts lives b (length xs)
+  parts_here xs at h x_is p = record {
+    list = p.list;
+    block = omega (arith, p.sets, length-map blocks block_of);
+    parts = omega (arith, p.lengths b (omega arith), instrs_here xs h x_is);
+  }
 
   -- what was written is there
   items_written : (ws xs : List Instr) → length ws ≡ length xs → xs ≡ here.instrs.items → (with_items here.instrs ws).items ≡ ws
   items_written ws xs n x_is = with_items_is here.instrs ws (n ∙ (ap length x_is ∙ sym here.instrs.ok.0))
 
-  pub place_written : (ws xs : List Instr) (ls : List Live) (at at' : Standing) (f : Stand → Stand) → b < length blocks → length ws ≡ length xs → xs ≡ here.instrs.items → ls ≡ (get_or lives b v).items → IsPlaced (map block_of blocks) lives b at
-      → stand_at (instrs_of ws) (holds_at ls) at'.done at'.next at'.changed ≡ f (stand_at (instrs_of xs) (holds_at ls) at.done at.next at.changed)
+  pub place_written : (ws xs : List Instr) (at at' : Standing) (f : Stand → Stand) → b < length blocks → length ws ≡ length xs → xs ≡ here.instrs.items → IsPlaced (map block_of blocks) lives b at
+      → stand_at (instrs_of ws) (tells lives b) at'.done at'.next at'.changed ≡ f (stand_at (instrs_of xs) (tells lives b) at.done at.next at.changed)
       → scan_by (map block_of (written ws)) lives b at' ≡ within f (scan_by (map block_of blocks) lives b at)
-  place_written ws xs ls at at' f h n x_is l_is p s =
-      let live : ls ≡ lives_at lives b = l_is ∙ sym (lives_get lives b v (omega (arith, p.sets, length-map blocks block_of))) in
-      let stands : stand_at (instrs_of ws) (told lives b) at'.done at'.next at'.changed ≡ f (stand_at (instrs_of here.instrs.items) (told lives b) at.done at.next at.changed)
-      = ap (λ l. stand_at (instrs_of ws) (holds_at l) at'.done at'.next at'.changed) (sym live) ∙ (s ∙ (λ i. f (stand_at (instrs_of (x_is i)) (holds_at (live i)) at.done at.next at.changed))) in
+  place_written ws xs at at' f h n x_is p s =
+      let stands : stand_at (instrs_of ws) (tells lives b) at'.done at'.next at'.changed ≡ f (stand_at (instrs_of here.instrs.items) (tells lives b) at.done at.next at.changed)
+      = s ∙ ap (λ l. f (stand_at (instrs_of l) (tells lives b) at.done at.next at.changed)) x_is in
       let new : map block_of (written ws) ≡ set (map block_of blocks) b (record { label = here.label; instrs = instrs_of ws })
       = map-set block_of blocks b (record { label = here.label; instrs = with_items here.instrs ws }) ∙ ap (λ is. set (map block_of blocks) b (record { label = here.label; instrs = instrs_of is })) (items_written ws xs n x_is) in
       let old : block_of here ≡ get_or (map block_of blocks) b (block_of here) = sym (get_or-map block_of blocks b r (block_of here) h) in
-      ap (λ code. scan_by code lives b at') new ∙ place_set (map block_of blocks) (told lives) b at.done at.next at'.done at'.next at.changed at'.changed (block_of here) (instrs_of ws) f (omega (arith, length-map blocks block_of)) old stands
+      ap (λ code. scan_by code lives b at') new ∙ place_set (map block_of blocks) (tells lives) b at.done at.next at'.done at'.next at.changed at'.changed (block_of here) (instrs_of ws) f (omega (arith, length-map blocks block_of)) old stands
 
   pub placed_written : (ws xs : List Instr) (at at' : Standing) → b < length blocks → length ws ≡ length xs → xs ≡ here.instrs.items
       → IsPlaced (map block_of blocks) lives b at → at'.done ≤ at'.next → at'.next ≤ length ws → IsPlaced (map block_of (written ws)) lives b at'
@@ -123,6 +119,7 @@ module _ (blocks : List Block) (lives : List (Vec Live)) (b : ℕ) (r : Block) (
       let same = lengths_set blocks b x (now ∙ sym before) in
       record {
         blocks = omega (arith, p.blocks);
+        list = p.list;
         sets = p.sets ∙ sym count;
         lengths = λ c le. omega (arith, p.lengths c le, same c);
         done = d;
@@ -130,22 +127,21 @@ module _ (blocks : List Block) (lives : List (Vec Live)) (b : ℕ) (r : Block) (
       }
 
   -- the pair that is ready in the block
-  pub ready_here : (xs : List Instr) (ls : List Live) (at : Standing) → b < length blocks → xs ≡ here.instrs.items → ls ≡ (get_or lives b v).items → IsPlaced (map block_of blocks) lives b at
-      → ready (reverse (take at.done (instrs_of xs))) (instrs_ahead (holds_at ls) at.next (drop at.next (instrs_of xs))) ≡ pair_ready (scan_by (map block_of blocks) lives b at)
-  ready_here xs ls at h x_is l_is p =
-      let live : ls ≡ lives_at lives b = l_is ∙ sym (lives_get lives b v (omega (arith, p.sets, length-map blocks block_of))) in
+  pub ready_here : (xs : List Instr) (at : Standing) → b < length blocks → xs ≡ here.instrs.items → IsPlaced (map block_of blocks) lives b at
+      → ready (reverse (take at.done (instrs_of xs))) (instrs_ahead (tells lives b) at.next (drop at.next (instrs_of xs))) ≡ pair_ready (scan_by (map block_of blocks) lives b at)
+  ready_here xs at h x_is p =
       let code = map block_of blocks in
       let same : get_or code b (block_of here) ≡ block_of here = get_or-map block_of blocks b r (block_of here) h in
       let old : drop b code ≡ block_of here ∷ drop (b + 1) code = drop_more code b (block_of here) (omega (arith, length-map blocks block_of)) ∙ ap (λ y. y ∷ drop (b + 1) code) same in
-      (λ i. ready (reverse (take at.done (instrs_of (x_is i)))) (instrs_ahead (holds_at (live i)) at.next (drop at.next (instrs_of (x_is i)))))
-      ∙ ap (λ l. pair_ready (place_in (told lives) b at.done at.next at.changed (reverse (take b code)) l)) (sym old)
+      ap (λ l. ready (reverse (take at.done (instrs_of l))) (instrs_ahead (tells lives b) at.next (drop at.next (instrs_of l)))) x_is
+      ∙ ap (λ l. pair_ready (place_in (tells lives) b at.done at.next at.changed (reverse (take b code)) l)) (sym old)
 
   -- the pair that is ready in the block was tried
-  pub tried_written : (m : Machine) (ws xs : List Instr) (ls : List Live) (at at' : Standing) → b < length blocks → length ws ≡ length xs → xs ≡ here.instrs.items → ls ≡ (get_or lives b v).items → IsPlaced (map block_of blocks) lives b at
-      → IsTriedIn m (stand_at (instrs_of xs) (holds_at ls) at.done at.next at.changed) (stand_at (instrs_of ws) (holds_at ls) at'.done at'.next at'.changed)
+  pub tried_written : (m : Machine) (ws xs : List Instr) (at at' : Standing) → b < length blocks → length ws ≡ length xs → xs ≡ here.instrs.items → IsPlaced (map block_of blocks) lives b at
+      → IsTriedIn m (stand_at (instrs_of xs) (tells lives b) at.done at.next at.changed) (stand_at (instrs_of ws) (tells lives b) at'.done at'.next at'.changed)
       → IsTried m (scan_by (map block_of blocks) lives b at) (scan_by (map block_of (written ws)) lives b at')
-  tried_written m ws xs ls at at' h n x_is l_is p t = record {
+  tried_written m ws xs at at' h n x_is p t = record {
     outcome = t.outcome;
-    is_answer = subst (λ r. IsAnswer m r t.outcome) (ready_here xs ls at h x_is l_is p) t.is_answer;
-    goes_on = place_written ws xs ls at at' (on (settled t.outcome)) h n x_is l_is p t.goes_on ∙ settled_within t.outcome (scan_by (map block_of blocks) lives b at);
+    is_answer = subst (λ r. IsAnswer m r t.outcome) (ready_here xs at h x_is p) t.is_answer;
+    goes_on = place_written ws xs at at' (on (settled t.outcome)) h n x_is p t.goes_on ∙ settled_within t.outcome (scan_by (map block_of blocks) lives b at);
   }

@@ -3,13 +3,12 @@
 -- A block is scanned in place: its first instructions are those that are done, its last ones those that are to come,
 -- and what lies between them is left over.
 use Rattle.std.specs.Prelude.{ℕ, zero, suc, ◌≡◌, ◌≤◌, ◌<◌, Bool, List, [], ◌∷◌, ◌++◌, map, reverse, take, drop, length, All, Option, Some, None, ⊤}
-use Rattle.std.specs.Global.{Vec}
 use Rattle.po_term.specs.Form.{WellFormed}
-use Rattle.po_model.specs.declared.pair.Live.{Live}
 use Rattle.po_model.specs.declared.machine.Machine.{Machine}
 use Rattle.po_model.specs.declared.var.Var.{Var}
 use Rattle.po_model.specs.Blocks.{PlainBlock, code_of, instrs_at, EndsLast}
-use Rattle.po_model.specs.LiveSets.{holds_at, lives_at}
+use Rattle.po_live.specs.declared.parts.LiveList.{LiveList}
+use Rattle.po_live.specs.Parts.{tells, blocks_in, parts_in, IsLiveList}
 use Rattle.po_model.specs.Pairs.{PlainPair, pair_of, WellFormedPair}
 use Rattle.po_model.specs.Combined.{Kept, Gone, AsOne, combination, Answer}
 use Rattle.po_model.specs.Scanned.{Ahead, Stand, InBlock, Scan, Within, Finished, enter, instrs_ahead, blocks_ahead, ready, settled, pair_ready, after_try, IsAtEnd}
@@ -56,21 +55,17 @@ place_in live b done next changed passed (x ∷ xs) = Within (record {
 abbrev pub place_at : List PlainBlock → (ℕ → ℕ → Var → Bool) → ℕ → ℕ → ℕ → Bool → Scan
 place_at code live b done next changed = place_in live b done next changed (reverse (take b code)) (drop b code)
 
--- what is live by these sets
-abbrev pub told : List (Vec Live) → ℕ → ℕ → Var → Bool
-told lives b = holds_at (lives_at lives b)
-
--- where it stands in the b-th block, with these live sets
-abbrev pub scan_by : List PlainBlock → List (Vec Live) → ℕ → Standing → Scan
-scan_by code lives b at = place_at code (told lives) b at.done at.next at.changed
+-- where it stands in the b-th block, with what this list says is live
+abbrev pub scan_by : List PlainBlock → LiveList → ℕ → Standing → Scan
+scan_by code lives b at = place_at code (tells lives) b at.done at.next at.changed
 
 -- where the scan of a ScanState stands
 abbrev pub scan_of : ScanState → Scan
-scan_of s = scan_by (code_of s.code) s.lives.after.items s.block s.at
+scan_of s = scan_by (code_of s.code) s.lives s.block s.at
 
 -- into the b-th block of a code, or to the finish where there is none
-abbrev pub enter_at : List PlainBlock → List (Vec Live) → ℕ → Bool → Scan
-enter_at code lives b changed = enter (reverse (take b code)) (blocks_ahead (told lives) b (drop b code)) changed
+abbrev pub enter_at : List PlainBlock → LiveList → ℕ → Bool → Scan
+enter_at code lives b changed = enter (reverse (take b code)) (blocks_ahead (tells lives) b (drop b code)) changed
 
 -- on within the block
 abbrev pub within : (Stand → Stand) → Scan → Scan
@@ -138,11 +133,12 @@ abbrev pub IsFormedScan : Scan → Type 0
 IsFormedScan (Within s) = IsFormedBlock s
 IsFormedScan (Finished code) = IsFormedCode code
 
--- the scan stands within the code, and there is a live set for each instruction of the block and of those to come
-pub record IsPlaced (code : List PlainBlock) (lives : List (Vec Live)) (b : ℕ) (at : Standing) : Type 0 where
+-- the scan stands within the code, and the list has a part for each instruction of the block and of those to come
+pub record IsPlaced (code : List PlainBlock) (lives : LiveList) (b : ℕ) (at : Standing) : Type 0 where
   pub blocks : b ≤ length code
-  pub sets : length lives ≡ length code
-  pub lengths : (c : ℕ) → b ≤ c → length (instrs_at code c) ≤ length (lives_at lives c)
+  pub list : IsLiveList lives
+  pub sets : blocks_in lives ≡ length code
+  pub lengths : (c : ℕ) → b ≤ c → length (instrs_at code c) ≤ parts_in lives c
   pub done : at.done ≤ at.next
   pub next : at.next ≤ length (instrs_at code b)
 
@@ -165,11 +161,11 @@ cut (x ∷ xs) zero n = record { label = x.label; instrs = take n x.instrs } ∷
 cut (x ∷ xs) (suc b) n = x ∷ cut xs b n
 
 -- how the scan stands: a pair is ready, a block is at its end, or all blocks are passed
-abbrev pub StandsAs : List PlainBlock → List (Vec Live) → ℕ → Standing → Stage → Type 0
+abbrev pub StandsAs : List PlainBlock → LiveList → ℕ → Standing → Stage → Type 0
 StandsAs code lives b at stage.Ready = HasPair code b at
 StandsAs code lives b at stage.AtEnd = (b < length code) × IsAtEnd (scan_by code lives b at)
 StandsAs code lives b at stage.Over = length code ≤ b
 
 pub record IsFormedState (s : ScanState) : Type 0 where
-  pub placed : IsPlaced (code_of s.code) s.lives.after.items s.block s.at
+  pub placed : IsPlaced (code_of s.code) s.lives s.block s.at
   pub formed : IsFormedScan (scan_of s)

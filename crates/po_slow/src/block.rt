@@ -4,12 +4,13 @@ ghost use Rattle.std.specs.Prelude.{ℕ, ◌≡◌, ◌<◌, ◌≤◌, ◌+◌,
 ghost use Rattle.po_term.specs.Moves.{instr_of, instrs_of};
 ghost use Rattle.po_model.specs.declared.var.Var.{Var as Variable};
 ghost use Rattle.po_model.specs.Combined.{combination_of};
-ghost use Rattle.po_model.specs.LiveSets.{holds_at};
+ghost use Rattle.po_live.specs.Parts.{tells, HasParts};
 ghost use Rattle.po_model.specs.Scanned.{onward, settled};
 ghost use Rattle.po_slow.specs.States.{stand_at, on, take_next};
 
 use crate::live::is_dead;
-use po_model::{Live, Outcome};
+use po_live::LiveList;
+use po_model::Outcome;
 use po_term::Instr;
 use std::alloc::Global;
 use std::mem;
@@ -75,22 +76,22 @@ fn take(alloc: Global, xs: &mut [Instr], at: &mut Standing)
 }
 
 /// One step on to the next pair, or to the end of the block; false where there is none to take.
-fn advance(alloc: Global, xs: &mut [Instr], lives: &[Live], at: &mut Standing) -> bool
+fn advance(alloc: Global, xs: &mut [Instr], lives: &LiveList, b: usize, at: &mut Standing) -> bool
     requires order { at.old.done ≤ at.old.next }
     requires inside { at.old.next ≤ length xs.old }
-    requires lives { length xs.old ≤ length lives.now }
-    ensures onward { on onward (stand_at (instrs_of xs.new) (holds_at lives.now) at.new.done at.new.next at.new.changed)
-        ≡ on onward (stand_at (instrs_of xs.old) (holds_at lives.now) at.old.done at.old.next at.old.changed) }
+    requires lives { HasParts lives.now b (length xs.old) }
+    ensures onward { on onward (stand_at (instrs_of xs.new) (tells lives.now b) at.new.done at.new.next at.new.changed)
+        ≡ on onward (stand_at (instrs_of xs.old) (tells lives.now b) at.old.done at.old.next at.old.changed) }
     ensures stays { result ≡ false
-        → stand_at (instrs_of xs.new) (holds_at lives.now) at.new.done at.new.next at.new.changed
-        ≡ on onward (stand_at (instrs_of xs.new) (holds_at lives.now) at.new.done at.new.next at.new.changed) }
+        → stand_at (instrs_of xs.new) (tells lives.now b) at.new.done at.new.next at.new.changed
+        ≡ on onward (stand_at (instrs_of xs.new) (tells lives.now b) at.new.done at.new.next at.new.changed) }
     ensures steps { result ≡ true → at.new.next ≡ at.old.next + 1 }
     ensures order { at.new.done ≤ at.new.next }
     ensures inside { at.new.next ≤ length xs.new }
 {
     if at.next >= xs.len() {
         false
-    } else if is_dead(&xs[at.next], &lives[at.next]) {
+    } else if is_dead(&xs[at.next], lives.at(b, at.next)) {
         skip(at);
         true
     } else if at.done == 0 {
@@ -102,16 +103,16 @@ fn advance(alloc: Global, xs: &mut [Instr], lives: &[Live], at: &mut Standing) -
 }
 
 /// On to the next pair, or to the end of the block: dead instructions are dropped, and one with none before it is done.
-pub fn go_on(alloc: Global, xs: &mut [Instr], lives: &[Live], at: &mut Standing)
+pub fn go_on(alloc: Global, xs: &mut [Instr], lives: &LiveList, b: usize, at: &mut Standing)
     requires order { at.old.done ≤ at.old.next }
     requires inside { at.old.next ≤ length xs.old }
-    requires lives { length xs.old ≤ length lives.now }
-    ensures onward { stand_at (instrs_of xs.new) (holds_at lives.now) at.new.done at.new.next at.new.changed
-        ≡ on onward (stand_at (instrs_of xs.old) (holds_at lives.now) at.old.done at.old.next at.old.changed) }
+    requires lives { HasParts lives.now b (length xs.old) }
+    ensures onward { stand_at (instrs_of xs.new) (tells lives.now b) at.new.done at.new.next at.new.changed
+        ≡ on onward (stand_at (instrs_of xs.old) (tells lives.now b) at.old.done at.old.next at.old.changed) }
     ensures order { at.new.done ≤ at.new.next }
     ensures inside { at.new.next ≤ length xs.new }
 {
-    'going: while advance(alloc, xs, lives, at) {}
+    'going: while advance(alloc, xs, lives, b, at) {}
 }
 
 /// Nothing is left of the pair that is ready.
@@ -158,17 +159,24 @@ fn place(alloc: Global, xs: &mut [Instr], at: &mut Standing, o: Outcome)
 }
 
 /// On from the pair that is ready, by what becomes of it.
-pub fn settle(alloc: Global, xs: &mut [Instr], lives: &[Live], at: &mut Standing, o: Outcome)
+pub fn settle(
+    alloc: Global,
+    xs: &mut [Instr],
+    lives: &LiveList,
+    b: usize,
+    at: &mut Standing,
+    o: Outcome,
+)
     requires some { 0 < at.old.done }
     requires order { at.old.done ≤ at.old.next }
     requires inside { at.old.next < length xs.old }
-    requires lives { length xs.old ≤ length lives.now }
-    ensures settled { stand_at (instrs_of xs.new) (holds_at lives.now) at.new.done at.new.next at.new.changed
+    requires lives { HasParts lives.now b (length xs.old) }
+    ensures settled { stand_at (instrs_of xs.new) (tells lives.now b) at.new.done at.new.next at.new.changed
         ≡ on (settled (combination_of o))
-        (stand_at (instrs_of xs.old) (holds_at lives.now) at.old.done at.old.next at.old.changed) }
+        (stand_at (instrs_of xs.old) (tells lives.now b) at.old.done at.old.next at.old.changed) }
     ensures order { at.new.done ≤ at.new.next }
     ensures inside { at.new.next ≤ length xs.new }
 {
     place(alloc, xs, at, o);
-    go_on(alloc, xs, lives, at);
+    go_on(alloc, xs, lives, b, at);
 }

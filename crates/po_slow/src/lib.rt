@@ -22,6 +22,6 @@ pub use laws::{
     combination_keeps_effect, dead_leaves_no_trace, passes_keep_fit, passes_keep_form,
     passes_keep_runs, passes_make_nothing_live, passes_make_one_code,
 };
-pub use pair::{combine, slow_pair};
+pub use pair::{combine, combine_by, combine_two, slow_pair};
 pub use state::{Ask, ScanState, scan_step};
-pub use unit::slow_unit;
+pub use unit::{slow_unit, slow_unit_by};

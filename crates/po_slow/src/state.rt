@@ -4,13 +4,15 @@ ghost use Rattle.po_model.specs.Blocks.{code_of};
 ghost use Rattle.po_model.specs.Combined.{combination_of};
 ghost use Rattle.po_model.specs.Machines.{IsMachine};
 ghost use Rattle.po_model.specs.Scanned.{Finished, IsPassStart, IsAtEnd, AfterEnd, pair_ready, after_try};
+ghost use Rattle.po_recog.specs.Indexes.{IsIndexOf};
 ghost use Rattle.po_slow.specs.States.{scan_of, enter_at, Asks, CanAnswer, StandsAs, HasPair, IsFinished, IsCut, IsPlaced, IsTried, IsFormedState};
 ghost use Rattle.po_model.specs.UnitCodes.{IsFormedCode};
 
 use crate::block::{Stage, Standing};
 use crate::within::{copy_within, cut_within, go_on_within, settle_within, stage, try_within};
-use po_live::{Lives, live_after};
+use po_live::{LiveList, live_list};
 use po_model::{Code, Machine, Outcome, Pair, Steps};
+use po_recog::Index;
 use po_word::OutOfMemory;
 use std::alloc::Global;
 use std::sync::ledger::Ledger;
@@ -37,7 +39,7 @@ const START: Standing = Standing {
 #[derive(Drop)]
 pub struct ScanState {
     code: Code,
-    lives: Lives,
+    lives: LiveList,
     block: usize,
     at: Standing,
 }
@@ -50,7 +52,7 @@ impl ScanState {
         ensures starts { IfOk result (λ s. IsPassStart (code_of code) (scan_of s)) }
         ensures formed { IfOk result IsFormedState }
     {
-        let lives = live_after(alloc, &code)?;
+        let lives = live_list(alloc, &code)?;
         let mut s = ScanState {
             code,
             lives,
@@ -106,9 +108,9 @@ impl ScanState {
     /// How the scan stands.
     pub(crate) fn stage(&self) -> Stage
         requires { IsFormedState self.now }
-        ensures { StandsAs (code_of self.now.code) self.now.lives.after.items self.now.block self.now.at result }
+        ensures { StandsAs (code_of self.now.code) self.now.lives self.now.block self.now.at result }
     {
-        stage(&self.code.blocks, &self.lives.after, self.block, self.at)
+        stage(&self.code.blocks, &self.lives, self.block, self.at)
     }
 
     /// A copy of the pair that is ready.
@@ -117,22 +119,16 @@ impl ScanState {
         requires ready { HasPair (code_of self.now.code) self.now.block self.now.at }
         ensures { IfOk result (λ p. Asks (scan_of self.now) (Ask.Pair p)) }
     {
-        copy_within(
-            alloc,
-            &self.code.blocks,
-            &self.lives.after,
-            self.block,
-            self.at,
-        )
+        copy_within(alloc, &self.code.blocks, &self.lives, self.block, self.at)
     }
 
     /// Into the block that is next, where there is one.
     fn enter(&mut self, alloc: Global)
-        requires placed { IsPlaced (code_of self.old.code) self.old.lives.after.items self.old.block self.old.at }
+        requires placed { IsPlaced (code_of self.old.code) self.old.lives self.old.block self.old.at }
         requires start { (self.old.at.done ≡ 0) × (self.old.at.next ≡ 0) }
         ensures scan { scan_of self.new
-            ≡ enter_at (code_of self.old.code) self.old.lives.after.items self.old.block self.old.at.changed }
-        ensures placed { IsPlaced (code_of self.new.code) self.new.lives.after.items self.new.block self.new.at }
+            ≡ enter_at (code_of self.old.code) self.old.lives self.old.block self.old.at.changed }
+        ensures placed { IsPlaced (code_of self.new.code) self.new.lives self.new.block self.new.at }
     {
         let ScanState {
             code,
@@ -141,7 +137,7 @@ impl ScanState {
             at,
         } = self;
         if *block < code.blocks.len() {
-            go_on_within(alloc, &mut code.blocks, &lives.after, *block, at);
+            go_on_within(alloc, &mut code.blocks, lives, *block, at);
         }
     }
 
@@ -203,7 +199,7 @@ impl ScanState {
         ensures unchanged { OnErr result (scan_of self.new ≡ scan_of self.old) }
         ensures formed { IsFormedState self.new }
     {
-        self.lives = live_after(alloc, &self.code)?;
+        self.lives = live_list(alloc, &self.code)?;
         self.block = 0;
         self.at = START;
         self.enter(alloc);
@@ -224,7 +220,7 @@ impl ScanState {
             block,
             at,
         } = self;
-        settle_within(alloc, &mut code.blocks, &lives.after, *block, at, o);
+        settle_within(alloc, &mut code.blocks, lives, *block, at, o);
     }
 
     /// Tries the pair that is ready, and goes on from it. A step is counted.
@@ -232,9 +228,11 @@ impl ScanState {
         &mut self,
         alloc: Global,
         m: &Machine,
+        index: &Index,
         steps: &mut Steps<L>,
     ) -> Result<(), OutOfMemory>
         requires machine { IsMachine m.now }
+        requires index { IsIndexOf m.now index.now }
         requires formed { IsFormedState self.old }
         requires ready { HasPair (code_of self.old.code) self.old.block self.old.at }
         ensures tried { OnOk result (IsTried m.now (scan_of self.old) (scan_of self.new)) }
@@ -247,7 +245,7 @@ impl ScanState {
             block,
             at,
         } = self;
-        try_within(alloc, m, &mut code.blocks, &lives.after, *block, at, steps)
+        try_within(alloc, m, index, &mut code.blocks, lives, *block, at, steps)
     }
 }
 

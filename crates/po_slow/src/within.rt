@@ -4,17 +4,20 @@ ghost use Rattle.po_model.specs.Blocks.{block_of};
 ghost use Rattle.po_model.specs.Pairs.{pair_of};
 ghost use Rattle.po_model.specs.Combined.{combination_of};
 ghost use Rattle.po_model.specs.Scanned.{onward, pair_ready, after_try};
+ghost use Rattle.po_recog.specs.Indexes.{IsIndexOf};
 ghost use Rattle.po_slow.specs.States.{scan_by, within, on, cut, IsPlaced, IsFormedScan, HasPair, IsTried, StandsAs};
 
 use crate::block::{Stage, Standing, go_on, settle};
 use crate::ready::{copy_pair, try_pair};
-use po_model::{Block, Live, Machine, Outcome, Pair, Steps};
+use po_live::LiveList;
+use po_model::{Block, Machine, Outcome, Pair, Steps};
+use po_recog::Index;
 use po_word::OutOfMemory;
 use std::alloc::Global;
 use std::sync::ledger::Ledger;
 
 /// How the scan stands in the b-th block.
-pub fn stage(blocks: &[Block], lives: &[Vec<Live>], b: usize, at: Standing) -> Stage
+pub fn stage(blocks: &[Block], lives: &LiveList, b: usize, at: Standing) -> Stage
     requires placed { IsPlaced (map block_of blocks.now) lives.now b at }
     requires formed { IsFormedScan (scan_by (map block_of blocks.now) lives.now b at) }
     ensures { StandsAs (map block_of blocks.now) lives.now b at result }
@@ -32,7 +35,7 @@ pub fn stage(blocks: &[Block], lives: &[Vec<Live>], b: usize, at: Standing) -> S
 pub fn copy_within(
     alloc: Global,
     blocks: &[Block],
-    lives: &[Vec<Live>],
+    lives: &LiveList,
     b: usize,
     at: Standing,
 ) -> Result<Pair, OutOfMemory>
@@ -40,7 +43,7 @@ pub fn copy_within(
     requires placed { IsPlaced (map block_of blocks.now) lives.now b at }
     ensures { IfOk result (λ p. pair_ready (scan_by (map block_of blocks.now) lives.now b at) ≡ Some (pair_of p)) }
 {
-    copy_pair(alloc, &blocks[b].instrs, &lives[b], at)
+    copy_pair(alloc, &blocks[b].instrs, lives, b, at)
 }
 
 /// Cuts the b-th block to its first instructions.
@@ -55,7 +58,7 @@ pub fn cut_within(blocks: &mut [Block], b: usize, done: usize)
 pub fn go_on_within(
     alloc: Global,
     blocks: &mut [Block],
-    lives: &[Vec<Live>],
+    lives: &LiveList,
     b: usize,
     at: &mut Standing,
 )
@@ -65,14 +68,14 @@ pub fn go_on_within(
         ≡ within (on onward) (scan_by (map block_of blocks.old) lives.now b at.old) }
     ensures placed { IsPlaced (map block_of blocks.new) lives.now b at.new }
 {
-    go_on(alloc, &mut blocks[b].instrs, &lives[b], at);
+    go_on(alloc, &mut blocks[b].instrs, lives, b, at);
 }
 
 /// On from the pair that is ready in the b-th block, by what becomes of it.
 pub fn settle_within(
     alloc: Global,
     blocks: &mut [Block],
-    lives: &[Vec<Live>],
+    lives: &LiveList,
     b: usize,
     at: &mut Standing,
     o: Outcome,
@@ -83,20 +86,22 @@ pub fn settle_within(
         ≡ after_try (combination_of o) (scan_by (map block_of blocks.old) lives.now b at.old) }
     ensures placed { IsPlaced (map block_of blocks.new) lives.now b at.new }
 {
-    settle(alloc, &mut blocks[b].instrs, &lives[b], at, o);
+    settle(alloc, &mut blocks[b].instrs, lives, b, at, o);
 }
 
 /// Tries the pair that is ready in the b-th block, and goes on from it. A step is counted.
 pub fn try_within<L: Ledger>(
     alloc: Global,
     m: &Machine,
+    index: &Index,
     blocks: &mut [Block],
-    lives: &[Vec<Live>],
+    lives: &LiveList,
     b: usize,
     at: &mut Standing,
     steps: &mut Steps<L>,
 ) -> Result<(), OutOfMemory>
     requires entries { length m.now.entries < 2 ^ 32 }
+    requires index { IsIndexOf m.now index.now }
     requires ready { HasPair (map block_of blocks.old) b at.old }
     requires placed { IsPlaced (map block_of blocks.old) lives.now b at.old }
     ensures tried { OnOk result (IsTried m.now (scan_by (map block_of blocks.old) lives.now b at.old)
@@ -104,5 +109,5 @@ pub fn try_within<L: Ledger>(
     ensures placed { IsPlaced (map block_of blocks.new) lives.now b at.new }
     ensures counted { OnOk result (steps.new ≡ steps.old + 1) }
 {
-    try_pair(alloc, m, &mut blocks[b].instrs, &lives[b], at, steps)
+    try_pair(alloc, m, index, &mut blocks[b].instrs, lives, b, at, steps)
 }

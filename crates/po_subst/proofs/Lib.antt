@@ -8,6 +8,10 @@ pub mod Steps
 pub mod InOrder
 pub mod Lookups
 pub mod Joint
+-- Which registers it asks of, how many transfers it surely has, and terms that simplifying leaves as they are
+pub mod Targets
+pub mod Counted
+pub mod Unchanged
 -- What that list does, makes live and looks like
 pub mod Alike
 pub mod Keeps

@@ -42,7 +42,7 @@ pub right_true : (x y : Bool) → y ≡ true → (x || y) ≡ true
 right_true true y e = refl
 right_true false y e = e
 
-reg_swap : (q r : Register) → reg_eq q r ≡ reg_eq r q
+pub reg_swap : (q r : Register) → reg_eq q r ≡ reg_eq r q
 reg_swap (Virt m) (Virt n) = grind arith
 reg_swap Fp Fp = refl
 reg_swap Rv Rv = refl

@@ -2,4 +2,5 @@ pub mod Seen
 pub mod Found
 pub mod Order
 pub mod JoinedMoves
+pub mod Least
 pub mod KeepsEffect

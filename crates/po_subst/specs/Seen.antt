@@ -1,10 +1,17 @@
--- What a call gives, seen without references and boxes.
-use Rattle.std.specs.Prelude.{ℕ, Option}
+-- What a call takes and gives, seen without references and boxes.
+use Rattle.std.specs.Prelude.{ℕ, Bool, List, Option}
+use Rattle.std.specs.List.{list_any}
 use Rattle.std.specs.Option.{option_map}
 use Rattle.std.proofs.Common.{Bor}
 use Rattle.po_term.specs.declared.term.Term.{Term}
+use Rattle.po_term.specs.declared.term.Reg.{Reg as Register}
 use Rattle.po_term.specs.Tree.{Tree}
 use Rattle.po_term.specs.Terms.{Place, tree_of}
+use Rattle.po_term.specs.Simplified.{reg_eq}
+
+-- a register is one of these
+abbrev pub is_among : List Register → Register → Bool
+is_among rs r = list_any (reg_eq r) rs
 
 -- a term that was found, behind its reference
 abbrev pub tree_found : Option (Bor Term) → Option (Tree ℕ Place)

@@ -1,21 +1,34 @@
 //! Which transfers of a pair of instructions count, by what is live after the second.
-ghost use Rattle.std.specs.Prelude.{◌≡◌, ◌&&◌, not, is_some, filter};
+ghost use Rattle.std.specs.Prelude.{◌≡◌, ◌&&◌, ◌++◌, ◌∷◌, [], not, is_some, filter, IfOk};
 ghost use Rattle.std.specs.List.{list_any};
 ghost use Rattle.po_term.specs.Terms.{InReg};
 ghost use Rattle.po_term.specs.Moves.{move_of, instr_of};
-ghost use Rattle.po_model.specs.LiveSet.{is_live};
 ghost use Rattle.po_model.specs.Parts.{code_leaves, right_at, cc_of, store_of};
 ghost use Rattle.po_model.specs.Joined.{is_control, is_away, is_wanted, is_kept, is_idle};
+ghost use Rattle.po_subst.specs.Seen.{is_among};
 
 use crate::parts::{compared, is_one, right_of, stored};
 use po_model::Live;
 use po_term::{Instr, Reg, Term, Transfer};
+use po_word::{OutOfMemory, push};
+use std::alloc::Global;
 
-/// Whether a register is live.
-fn lives(live: &Live, r: Reg) -> bool
-    ensures { result ≡ is_live live.now r }
+/// The registers that are live, as a list (docs/OPTIMISER.md, "Combination"). It fails only where memory is refused.
+pub fn live_registers(alloc: Global, live: &Live) -> Result<Vec<Reg>, OutOfMemory>
+    ensures { IfOk result (λ rs. rs.items ≡ live.now.regs.keys) }
 {
-    live.regs.contains(&r)
+    let mut regs = Vec::new(alloc);
+    for r in &live.regs {
+        push(&mut regs, *r)?;
+    }
+    Ok(regs)
+}
+
+/// Whether a register is one of those that are live.
+pub fn lives(live: &[Reg], r: Reg) -> bool
+    ensures { result ≡ is_among live.now r }
+{
+    live.iter().any(|q| is_one(r, *q))
 }
 
 fn is_control(t: &Transfer) -> bool
@@ -67,28 +80,28 @@ pub fn goes_away(b: &Instr) -> bool
 }
 
 /// Whether a transfer of the second instruction sets something live, or does more than set.
-pub fn is_wanted(t: &Transfer, live: &Live) -> bool
-    ensures { result ≡ is_wanted (is_live live.now) live.now.cc (move_of t.now) }
+pub fn is_wanted(t: &Transfer, live: &[Reg], cc_live: bool) -> bool
+    ensures { result ≡ is_wanted (is_among live.now) cc_live (move_of t.now) }
 {
     match t {
         Transfer::Set(r, _) => lives(live, *r),
-        Transfer::Cc(_, _) => live.cc,
+        Transfer::Cc(_, _) => cc_live,
         _ => true,
     }
 }
 
 /// Whether a register is live that an instruction doesn't set.
-fn lives_unset(live: &Live, r: Reg, b: &Instr) -> bool
-    ensures { result ≡ (is_live live.now r && not (is_some (right_at code_leaves (InReg r) (instr_of b.now)))) }
+fn lives_unset(live: &[Reg], r: Reg, b: &Instr) -> bool
+    ensures { result ≡ (is_among live.now r && not (is_some (right_at code_leaves (InReg r) (instr_of b.now)))) }
 {
     lives(live, r) && right_of(b, r).is_none()
 }
 
 /// Whether cc is live and an instruction doesn't set it.
-fn cc_lives_unset(live: &Live, b: &Instr) -> bool
-    ensures { result ≡ (live.now.cc && not (is_some (cc_of (instr_of b.now)))) }
+fn cc_lives_unset(cc_live: bool, b: &Instr) -> bool
+    ensures { result ≡ (cc_live && not (is_some (cc_of (instr_of b.now)))) }
 {
-    live.cc && compared(b).is_none()
+    cc_live && compared(b).is_none()
 }
 
 /// Whether an instruction stores nothing.
@@ -100,13 +113,13 @@ fn stores_nothing(b: &Instr) -> bool
 
 /// Whether a transfer of the first instruction stays beside the second, b: where it sets something that is live and
 /// that b doesn't set, and where it stores and b doesn't.
-pub fn is_kept(t: &Transfer, b: &Instr, live: &Live) -> bool
-    ensures { result ≡ is_kept code_leaves (is_live live.now) live.now.cc
-        (filter (is_wanted (is_live live.now) live.now.cc) (instr_of b.now)) (move_of t.now) }
+pub fn is_kept(t: &Transfer, b: &Instr, live: &[Reg], cc_live: bool) -> bool
+    ensures { result ≡ is_kept code_leaves (is_among live.now) cc_live
+        (filter (is_wanted (is_among live.now) cc_live) (instr_of b.now)) (move_of t.now) }
 {
     match t {
         Transfer::Set(r, _) => lives_unset(live, *r, b),
-        Transfer::Cc(_, _) => cc_lives_unset(live, b),
+        Transfer::Cc(_, _) => cc_lives_unset(cc_live, b),
         Transfer::Store(_, _) => stores_nothing(b),
         _ => false,
     }

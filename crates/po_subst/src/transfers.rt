@@ -4,16 +4,14 @@ ghost use Rattle.std.specs.Option.{option_to_list};
 ghost use Rattle.po_term.specs.Terms.{tree_of};
 ghost use Rattle.po_term.specs.Moves.{branch_of, SetTo, CcTo, StoreTo, Ends, IfTwo, move_of, moves_of, instr_of};
 ghost use Rattle.po_term.specs.Kinds.{words};
-ghost use Rattle.po_model.specs.LiveSet.{is_live};
 ghost use Rattle.po_model.specs.Parts.{code_leaves, cc_of};
 ghost use Rattle.po_model.specs.Joined.{is_wanted, forward_branch, forward_move, forward_moves};
-ghost use Rattle.po_subst.specs.Seen.{tree_made};
+ghost use Rattle.po_subst.specs.Seen.{is_among, tree_made};
 ghost use Rattle.po_subst.specs.Found.{known_moves, behind, instr_made, move_made, wanted_move};
 
 use crate::choosing::is_wanted;
 use crate::forwarding::forward;
 use crate::parts::compared;
-use po_model::Live;
 use po_simplify::decide;
 use po_term::{Cond, Instr, Label, Reg, Term, Transfer, copy_term};
 use po_word::{OutOfMemory, Rel, push};
@@ -197,12 +195,13 @@ fn push_wanted(
     xs: &mut Vec<Transfer>,
     a: &Instr,
     t: &Transfer,
-    live: &Live,
+    live: &[Reg],
+    cc_live: bool,
 ) -> Result<bool, OutOfMemory>
     ensures { IfOk result (λ known. known_moves known xs.new.items
-        ≡ behind xs.old.items (wanted_move (is_live live.now) live.now.cc (instr_of a.now) (move_of t.now))) }
+        ≡ behind xs.old.items (wanted_move (is_among live.now) cc_live (instr_of a.now) (move_of t.now))) }
 {
-    if is_wanted(t, live) {
+    if is_wanted(t, live, cc_live) {
         push_forwarded(alloc, xs, a, t)
     } else {
         Ok(true)
@@ -214,15 +213,16 @@ pub fn forward_wanted(
     alloc: Global,
     a: &Instr,
     b: &Instr,
-    live: &Live,
+    live: &[Reg],
+    cc_live: bool,
 ) -> Result<Option<Instr>, OutOfMemory>
     ensures { IfOk result (λ made. instr_made made
         ≡ (forward_moves words code_leaves (instr_of a.now)
-        (filter (is_wanted (is_live live.now) live.now.cc) (instr_of b.now))).got) }
+        (filter (is_wanted (is_among live.now) cc_live) (instr_of b.now))).got) }
 {
     let mut xs = Vec::new(alloc);
     for t in &b.xs {
-        if !push_wanted(alloc, &mut xs, a, t, live)? {
+        if !push_wanted(alloc, &mut xs, a, t, live, cc_live)? {
             return Ok(None);
         }
     }

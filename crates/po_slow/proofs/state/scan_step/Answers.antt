@@ -6,4 +6,4 @@ use Rattle.po_slow.proofs.state.scan_step.Goals as goal
 pub settle-requires-clause-ready : goal.settle-requires-clause-ready
 settle-requires-clause-ready c =
     let s = c.args.s.now in
-    has_pair (code_of s.code) s.lives.after.items s.block s.at (combination_of c.args.o) c.requires.answer
+    has_pair (code_of s.code) s.lives s.block s.at (combination_of c.args.o) c.requires.answer

@@ -1,31 +1,28 @@
-use Rattle.std.proofs.Common.{◌≡◌, ◌++◌, List, ◌∷◌, length, ap, sym, ◌∙◌, arith, subst, rules}
-use Rattle.std.specs.Vec.Iter.{into_iter_items}
+use Rattle.std.proofs.Common.{◌≡◌, ◌<◌, ◌≤◌, ◌+◌, ◌++◌, ◌∙◌, List, length, drop, get_or, ap, subst, arith}
+use Rattle.std.proofs.lemmas.List.{length-drop}
 use Rattle.po_term.specs.declared.transfer.Transfer.{Transfer}
 use Rattle.po_term.specs.Moves.{move_of, moves_of, instr_of, PlainMove}
-use Rattle.po_model.specs.LiveSet.{is_live}
 use Rattle.po_subst.specs.Order.{Kinds, with_rest, kept_beside}
-use Rattle.po_subst.proofs.Kept.{kept_step, kept_end}
+use Rattle.po_subst.specs.Seen.{is_among}
+use Rattle.po_subst.proofs.Kept.{kept_step, kept_end, next_of}
 use Rattle.po_subst.proofs.order.add_kept.Goals as goal
 
 pub loop-t-preserved : goal.loop-t-preserved
 loop-t-preserved c =
-    let live = is_live c.args.live.now in
+    let live = is_among c.args.live.now in
+    let xs = c.args.a.now.xs.items in
+    let i = c.loop-t.t-index in
     let after : List PlainMove → Kinds = with_rest c.add_where_kept.new.by_kind in
     let before : List PlainMove → Kinds = with_rest c.loop-t.by_kind in
-    let start : List PlainMove → Kinds = λ ms. with_rest c.args.by_kind.now (kept_beside live c.args.live.now.cc (instr_of c.args.b.now) (moves_of (into_iter_items c.into_iter-t-iterator.result)) ++ ms) in
-    let next = c.in-Some.ensures.steps in
-    let count : length (into_iter_items c.loop-t.t-iterator) ≡ length (c.in-Some.t ∷ into_iter_items c.next.new.self) = ap length next.0 in
-    record {
-      all = kept_step live c.args.live.now.cc (instr_of c.args.b.now) after before start (move_of c.in-Some.t) (moves_of (into_iter_items c.loop-t.t-iterator)) (moves_of (into_iter_items c.next.new.self)) (ap moves_of next.0) c.in_ok-add_where_kept.ensures c.loop-t.invariant.all;
-      count = omega (arith, count, next.1);
-    }
+    let start : List PlainMove → Kinds = λ ms. with_rest c.args.by_kind.now (kept_beside live c.args.cc_live (instr_of c.args.b.now) (instr_of c.args.a.now) ++ ms) in
+    kept_step live c.args.cc_live (instr_of c.args.b.now) after before start (move_of c.t-item.result) (moves_of (drop i xs)) (moves_of (drop (i + 1) xs))
+    (ap moves_of (next_of xs i c.t-item.result (subst (λ (ys : List Transfer). i < length ys) c.deref-t-items.ensures.value c.loop-t-test.true) (c.t-item.is ∙ ap (λ (ys : List Transfer). get_or ys i c.t-item.result) c.deref-t-items.ensures.value))) c.in_ok-add_where_kept.ensures c.loop-t.invariant
 
 pub returns : goal.returns
 returns c =
-    let live = is_live c.args.live.now in
+    let live = is_among c.args.live.now in
+    let xs = c.args.a.now.xs.items in
+    let i = c.loop-t.t-index in
     let now : List PlainMove → Kinds = with_rest c.loop-t.by_kind in
-    let start : List Transfer → List PlainMove → Kinds = λ ts ms. with_rest c.args.by_kind.now (kept_beside live c.args.live.now.cc (instr_of c.args.b.now) (moves_of ts) ++ ms) in
-    let none : length (into_iter_items c.loop-t.t-iterator) ≡ 0 = sym c.loop-t.invariant.count ∙ c.in-None.ensures.steps.0 in
-    let gives : into_iter_items c.into_iter-t-iterator.result ≡ c.args.a.xs.items = search (rules, c.into_iter-t-iterator.ensures.into_iter_gives) in
-    subst (λ (ts : List Transfer). (ms : List PlainMove) → now ms ≡ start ts ms) gives
-    (kept_end live c.args.live.now.cc (instr_of c.args.b.now) now (start (into_iter_items c.into_iter-t-iterator.result)) (into_iter_items c.loop-t.t-iterator) none c.loop-t.invariant.all)
+    let start : List PlainMove → Kinds = λ ms. with_rest c.args.by_kind.now (kept_beside live c.args.cc_live (instr_of c.args.b.now) (instr_of c.args.a.now) ++ ms) in
+    kept_end live c.args.cc_live (instr_of c.args.b.now) now start (drop i xs) (omega (arith, length-drop i xs, subst (λ (ys : List Transfer). length ys ≤ i) c.deref-t-items.ensures.value c.loop-t-test.false)) c.loop-t.invariant

@@ -1,5 +1,5 @@
 use Rattle.po_recog.proofs.Clobbers.{fits_dead}
-use Rattle.po_recog.proofs.entries.fits_while_cc_is_dead.Goals as goal
+use Rattle.po_recog.proofs.laws.fits_while_cc_is_dead.Goals as goal
 
 pub returns : goal.returns
 returns c = fits_dead
