@@ -59,4 +59,12 @@ impl Learned {
     {
         &self.rule
     }
+
+    /// The rule, taken out (docs/RULES.md, "Learned rules").
+    pub fn into_rule(self) -> Arc<Rule>
+        ensures is_it { arc_value result ≡ self.1 }
+        ensures canonical { Canonical self.0 (rule_of self.1) }
+    {
+        self.rule
+    }
 }

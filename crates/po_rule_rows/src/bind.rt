@@ -1,10 +1,8 @@
-//! Pairs beside shapes of others, and values put into results.
+//! Pairs beside shapes of others.
 use crate::texts::{pair, shape_of};
-use po_model::{Outcome, PTransfer, Pattern, Values};
-use po_skel::{bind, instantiate};
+use po_skel::bind;
 use po_term::Reg::{self, Virt};
 use po_term::well_formed;
-use po_word::OutOfMemory;
 use std::alloc::Global;
 use std::test::Fail;
 
@@ -84,30 +82,5 @@ fn bound(rt: HostRuntime) -> Result<(), Fail> {
     for (words, first, second, want) in ROWS {
         assert!(rt; is_bound(alloc, first, second)? == want, "{words}");
     }
-    Ok(())
-}
-
-/// The values of `v3 := 1 | v4 := (v2 + v3)`.
-fn values(alloc: Global) -> Result<Values, OutOfMemory> {
-    Ok(Values {
-        regs: vec![in alloc; Virt(3), Virt(4), Virt(2)]?,
-        syms: vec![in alloc]?,
-        label: None,
-        consts: vec![in alloc; 1]?,
-    })
-}
-
-#[test]
-fn put(rt: HostRuntime) -> Result<(), Fail> {
-    let alloc = rt.alloc();
-    let v = values(alloc)?;
-    let kept = instantiate(alloc, &Pattern::Keep, &v)?;
-    assert!(rt; matches!(kept, Outcome::Keep), "keep");
-    let gone = instantiate(alloc, &Pattern::Nothing, &v)?;
-    assert!(rt; matches!(gone, Outcome::Nothing), "nothing");
-    let mut xs = Vec::new(alloc);
-    xs.push(PTransfer::Ret)?;
-    let one = instantiate(alloc, &Pattern::One(xs), &v)?;
-    assert!(rt; matches!(one, Outcome::One(_)), "one");
     Ok(())
 }

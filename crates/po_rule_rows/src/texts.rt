@@ -96,7 +96,7 @@ fn transfer(alloc: Global, text: &str) -> Result<Transfer, Fail> {
 }
 
 /// The instruction that a text is the printed text of.
-fn instr(alloc: Global, text: &str) -> Result<Instr, Fail> {
+pub(crate) fn instr(alloc: Global, text: &str) -> Result<Instr, Fail> {
     let mut xs = Vec::new(alloc);
     for part in text.split(" ; ") {
         xs.push(transfer(alloc, part)?)?;

@@ -13,7 +13,7 @@ use Rattle.po_model.specs.Holed.{PlainValues}
 use Rattle.po_model.specs.Shape.{meet_ending, meet_move, meet_moves, nothing_met, pair_values}
 use Rattle.po_skel.specs.Labels.{EndsAt, AllGoTo, HasOneLabel}
 
-goes_nowhere : (v : PlainValues) (ms : List PlainMove) → list_any is_control ms ≡ false → AllGoTo v ms
+pub goes_nowhere : (v : PlainValues) (ms : List PlainMove) → list_any is_control ms ≡ false → AllGoTo v ms
 goes_nowhere v [] h = tt
 goes_nowhere v (SetTo r t ∷ ms) h = (tt, goes_nowhere v ms h)
 goes_nowhere v (CcTo t u ∷ ms) h = (tt, goes_nowhere v ms h)
@@ -46,6 +46,9 @@ goes_there w (Ends e ∷ []) h = (ends_there w e, tt)
 goes_there w (Ends e ∷ n ∷ ms) h =
     absurd (is_last e n (All-head (GoesBefore (Ends e)) n ms ((pairs_more GoesBefore (Ends e) (n ∷ ms)).0 h).0))
 
+-- the second instruction goes to its own label
+pub goes_on : (p : PlainPair) → WellFormedPair p → AllGoTo (pair_values p) p.b
+goes_on p h = goes_there (meet_moves nothing_met p.a) p.b h.second.pairs
+
 pub one_label : (p : PlainPair) → WellFormedPair p → list_any is_control p.a ≡ false → HasOneLabel p
-one_label p h none =
-    (goes_nowhere (pair_values p) p.a none, goes_there (meet_moves nothing_met p.a) p.b h.second.pairs)
+one_label p h none = (goes_nowhere (pair_values p) p.a none, goes_on p h)

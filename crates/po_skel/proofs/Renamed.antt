@@ -25,7 +25,7 @@ use Rattle.po_skel.specs.Renaming.{chosen_move, chosen_pair}
 use Rattle.po_term.specs.Form.{IsFixed}
 
 -- a map of numbers that keeps them apart keeps their tests
-apart_map : (h : ℕ → ℕ) → ((x y : ℕ) → h x ≡ h y → x ≡ y) → (x y : ℕ) → (h x == h y) ≡ (x == y)
+pub apart_map : (h : ℕ → ℕ) → ((x y : ℕ) → h x ≡ h y → x ≡ y) → (x y : ℕ) → (h x == h y) ≡ (x == y)
 apart_map h apart x y = go (h x == h y) (x == y) refl refl
   where
     go : (b c : Bool) → (h x == h y) ≡ b → (x == y) ≡ c → b ≡ c

@@ -6,6 +6,7 @@ ghost use Rattle.po_model.specs.Joined.{is_control};
 ghost use Rattle.po_model.specs.Shape.{pair_values, pair_shape};
 ghost use Rattle.po_model.specs.Put.{put_move};
 ghost use Rattle.po_skel.specs.Labels.{HasOneLabel};
+ghost use Rattle.po_skel.specs.Values.{AreDifferent, ShapesAreFilled, ShapesStay};
 ghost use Rattle.po_skel.specs.Renaming.{Choice, IsApart, chosen_pair, Commutes};
 
 /// A pair's values put into its shape give the pair, where both instructions go to one label, if to any
@@ -40,4 +41,21 @@ pub fn has_one_label()
 /// the same shape (docs/RULES.md, "Values put into holes").
 pub fn renaming_keeps_shape()
     ensures { (c : Choice) → IsApart c → (p : PlainPair) → pair_shape (chosen_pair c p) ≡ pair_shape p }
+{}
+
+/// Different holes of a pair's shape have different virtual registers, and different symbols (docs/RULES.md, "What
+/// stands at the holes").
+pub fn values_differ()
+    ensures { (p : PlainPair) → AreDifferent (pair_values p) }
+{}
+
+/// Each hole of a well-formed pair's shape has its value in the pair (docs/RULES.md, "What stands at the holes").
+pub fn shapes_are_filled()
+    ensures { ShapesAreFilled }
+{}
+
+/// Values that belong to a pair's shape, put into it, give a pair that has this shape, and at whose holes these values
+/// stand, whatever the constants are (docs/RULES.md, "Values put into holes").
+pub fn shapes_stay()
+    ensures { ShapesStay }
 {}

@@ -128,7 +128,8 @@ fn meet_transfers(v: &mut Values, xs: &[Transfer]) -> Result<(), OutOfMemory>
     Ok(())
 }
 
-/// What stands at the holes of the pair's shape.
+/// What stands at the holes of the pair's shape (docs/RULES.md, "What stands at the holes"). It fails only where memory
+/// is refused.
 pub fn pair_values(alloc: Global, p: &Pair) -> Result<Values, OutOfMemory>
     ensures { IfOk result (λ v. values_of v ≡ pair_values (pair_of p.now)) }
 {
