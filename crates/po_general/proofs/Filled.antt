@@ -3,55 +3,26 @@ use Rattle.std.proofs.Common.{Bool, true, false, List, [], ◌∷◌}
 use Rattle.std.specs.Prelude.{All, ◌&&◌, not}
 use Rattle.std.proofs.lemmas.List.Elements.{All-nil, All-cons, All-append}
 use Rattle.po_word.specs.Exprs.{Expr, HasHoles, Ask, OfEach}
-use Rattle.po_term.specs.Tree.{Const, Leaf, Read, Unary, Binary, EachLeaf}
-use Rattle.po_term.specs.Moves.{GoTo, IfCc, IfTwo, CallOf, Return, SetTo, CcTo, StoreTo, Ends}
-use Rattle.po_model.specs.declared.hole.PReg.{PReg}
-use Rattle.po_model.specs.declared.hole.PReg.TheVariants.{Hole, Fixed}
 use Rattle.po_model.specs.declared.machine.Machine.{Machine}
 use Rattle.po_model.specs.Machines.{IsMachine}
 use Rattle.po_model.specs.Pairs.{PlainPair, WellFormedPair}
 use Rattle.po_model.specs.Combined.{Kept, Gone, AsOne}
-use Rattle.po_model.specs.Holed.{InPReg, AtSymHole, HoleTree, HoleMove, HoleCombination, Asked, PlainValues}
+use Rattle.po_model.specs.Holed.{HoleCombination, Asked, PlainValues}
 use Rattle.po_model.specs.Shape.{pair_values, pair_shape}
-use Rattle.po_model.specs.Put.{HasRegister, HasPlace, HasMoves, HasValues}
+use Rattle.po_model.specs.Put.{HasValues}
 use Rattle.po_model.specs.Generalised.{asks_hole, keep_asked, path, reading, generalised}
 use Rattle.po_general.specs.Laws.{HasWord}
-use Rattle.po_general.proofs.Filling.{Stands, StandsAt}
-use Rattle.po_general.proofs.Standing.{StandIn, ResultStands, AskedStand, asked_stand}
+use Rattle.po_skel.proofs.Stand.{has_moves}
+use Rattle.po_skel.proofs.Fills.{fills}
+use Rattle.po_general.proofs.Standing.{ResultStands, AskedStand, asked_stand}
 use Rattle.po_general.proofs.Fills.{result_filled}
 use Rattle.po_general.proofs.Questions.{is_kept, with_one, says}
-use Rattle.po_general.proofs.Own.{fills}
 
 module _ (v : PlainValues) where
-  has_register : (r : PReg) → Stands v r → HasRegister v r
-  has_register (Hole k) h = h
-  has_register (Fixed r) h = tt
-
-  has_leaves : (t : HoleTree) → EachLeaf (StandsAt v) t → EachLeaf (HasPlace v) t
-  has_leaves (Const e) h = tt
-  has_leaves (Leaf (InPReg r)) h = has_register r h
-  has_leaves (Leaf (AtSymHole k)) h = h
-  has_leaves (Read t) h = has_leaves t h
-  has_leaves (Unary o t) h = has_leaves t h
-  has_leaves (Binary o t u) h = (has_leaves t h.0, has_leaves u h.1)
-
-  has_moves : (ms : List HoleMove) → StandIn v ms → HasMoves v ms
-  has_moves [] h = tt
-  has_moves (SetTo r t ∷ ms) h = ((has_register r h.0.0, (h.0.1.0, has_leaves t h.0.1.1)), has_moves ms h.1)
-  has_moves (CcTo t u ∷ ms) h = (((h.0.0.0, has_leaves t h.0.0.1), (h.0.1.0, has_leaves u h.0.1.1)), has_moves ms h.1)
-  has_moves (StoreTo t u ∷ ms) h =
-      (((h.0.0.0, has_leaves t h.0.0.1), (h.0.1.0, has_leaves u h.0.1.1)), has_moves ms h.1)
-  has_moves (Ends (GoTo l) ∷ ms) h = (h.0.1, has_moves ms h.1)
-  has_moves (Ends (IfCc r l) ∷ ms) h = (h.0.1, has_moves ms h.1)
-  has_moves (Ends (IfTwo t u r l) ∷ ms) h =
-      (((h.0.0.0, has_leaves t h.0.0.1), (h.0.1.0, has_leaves u h.0.1.1), h.0.2.1), has_moves ms h.1)
-  has_moves (Ends (CallOf k n) ∷ ms) h = (h.0, has_moves ms h.1)
-  has_moves (Ends Return ∷ ms) h = (tt, has_moves ms h.1)
-
   has_values : (c : HoleCombination) → ResultStands v c → HasValues v c
   has_values Kept h = tt
   has_values Gone h = tt
-  has_values (AsOne ms) h = has_moves ms h
+  has_values (AsOne ms) h = has_moves v ms h
 
   kept_words : (q : Ask Expr) → OfEach (λ e. HasHoles e v.consts) q → (kept : Asked) → All (HasWord v) kept
       → (b : Bool) → All (HasWord v) (with_one v.consts q kept b)

@@ -17,17 +17,10 @@ use Rattle.po_model.specs.Holed.{HolePlace, InPReg, AtSymHole, label_hole, Plain
 use Rattle.po_model.specs.Put.{put_register, put_symbol, put_place, put_label, label_or}
 use Rattle.po_model.specs.Generalised.{hole_register_eq, hole_leaves}
 use Rattle.po_maps.proofs.Renames.{Renames}
+use Rattle.po_skel.proofs.Known.{no_sym, Stands, StandsAt}
+use Rattle.po_skel.proofs.Apart.{number_of, Proper}
+use Rattle.po_skel.proofs.Renamed.{apart_map}
 use Rattle.po_term.specs.Form.{IsFixed}
-
--- a map of numbers that keeps them apart keeps their tests
-pub apart_map : (h : ℕ → ℕ) → ((x y : ℕ) → h x ≡ h y → x ≡ y) → (x y : ℕ) → (h x == h y) ≡ (x == y)
-apart_map h apart x y = go (h x == h y) (x == y) refl refl
-  where
-    go : (b c : Bool) → (h x == h y) ≡ b → (x == y) ≡ c → b ≡ c
-    go true true e i = refl
-    go false false e i = refl
-    go true false e i = absurd (let n : (x == y) ≡ true = eq-eqb x y (apart x y (eqb-true (h x) (h y) e)) in cc)
-    go false true e i = absurd (let n : (h x == h y) ≡ true = eq-eqb (h x) (h y) (ap h (eqb-true x y i)) in cc)
 
 -- two different numbers
 pub differ : (x y : ℕ) → (x ≡ y → ⊥) → (x == y) ≡ false
@@ -36,11 +29,6 @@ differ x y n = go (x == y) refl
     go : (b : Bool) → (x == y) ≡ b → b ≡ false
     go true e = absurd (n (eqb-true x y e))
     go false e = refl
-
--- the number of a virtual register
-abbrev pub number_of : Register → ℕ
-number_of (Virt n) = n
-number_of r = 0
 
 abbrev above : List Register → ℕ
 above [] = 0
@@ -55,9 +43,6 @@ is_above (r ∷ rs) (suc k) h = let i : number_of (slice_index_or rs k Fp) < abo
 abbrev above_syms : List Sym → ℕ
 above_syms [] = 0
 above_syms (s ∷ ss) = suc s.0 + above_syms ss
-
-abbrev pub no_sym : Sym
-no_sym = record { 0 = 0 }
 
 is_above_syms : (ss : List Sym) (k : ℕ) → k < length ss → (slice_index_or ss k no_sym).0 < above_syms ss
 is_above_syms [] k h = absurd (omega arith)
@@ -101,15 +86,6 @@ swap_back a x = go (x == 0) (x == a) refl refl
 swap_apart : (a x y : ℕ) → swap a x ≡ swap a y → x ≡ y
 swap_apart a x y e = sym (swap_back a x) ∙ ap (swap a) e ∙ swap_back a y
 
--- the registers of values are virtual and different, and so are the symbols
-pub record Proper (v : PlainValues) : Type 0 where
-  pub virtual : (k : ℕ) → k < length v.regs
-      → slice_index_or v.regs k Fp ≡ Virt (number_of (slice_index_or v.regs k Fp))
-  pub regs : (j k : ℕ) → j < length v.regs → k < length v.regs
-      → slice_index_or v.regs j Fp ≡ slice_index_or v.regs k Fp → j ≡ k
-  pub syms : (j k : ℕ) → j < length v.syms → k < length v.syms → slice_index_or v.syms j no_sym
-      ≡ slice_index_or v.syms k no_sym → j ≡ k
-
 abbrev label_number : Option Label → ℕ
 label_number None = 0
 label_number (Some l) = l.0
@@ -137,15 +113,6 @@ module _ (v : PlainValues) where
 
   abbrev pub full_label : Label → Label
   full_label l = record { 0 = swap (label_number v.label) l.0 }
-
-  -- a register of a rule that has a register here
-  abbrev pub Stands : PReg → Type 0
-  Stands (Hole k) = k < length v.regs
-  Stands (Fixed r) = IsFixed r
-
-  abbrev pub StandsAt : HolePlace → Type 0
-  StandsAt (InPReg r) = Stands r
-  StandsAt (AtSymHole k) = k < length v.syms
 
   module _ (proper : Proper v) where
     number_in : (k : ℕ) → k < length v.regs → number k ≡ number_of (slice_index_or v.regs k Fp)
@@ -322,7 +289,7 @@ module _ (v : PlainValues) where
 
     -- it continues putting in
 
-    pub register_put : (r : PReg) → Stands r → full_register r ≡ put_register v r
+    pub register_put : (r : PReg) → Stands v r → full_register r ≡ put_register v r
     register_put (Hole k) h = ap Virt (number_in k h) ∙ sym (proper.virtual k h)
     register_put (Fixed (Virt n)) h = absurd h
     register_put (Fixed Fp) h = refl
@@ -332,7 +299,7 @@ module _ (v : PlainValues) where
     pub symbol_put : (k : ℕ) → k < length v.syms → full_symbol k ≡ put_symbol v k
     symbol_put k h = one_sym (full_symbol k) (put_symbol v k) (symbol_in k h)
 
-    pub place_put : (l : HolePlace) → StandsAt l → full_place l ≡ put_place v l
+    pub place_put : (l : HolePlace) → StandsAt v l → full_place l ≡ put_place v l
     place_put (InPReg r) h = ap InReg (register_put r h)
     place_put (AtSymHole k) h = ap AtSym (symbol_put k h)
 

@@ -1,12 +1,10 @@
 -- A pair that is a shape with values put in: what becomes of the pair is what becomes of the shape, with the values
 -- put in.
-use Rattle.std.proofs.Common.{◌≡◌, ℕ, Bool, true, false, List, map, refl, sym, ◌∙◌, ap, subst, eq-eqb, ◌⊎◌, inl, inr}
+use Rattle.std.proofs.Common.{◌≡◌, ℕ, Bool, true, false, List, map, refl, sym, ◌∙◌, ap, subst, ◌⊎◌, inl, inr}
 use Rattle.std.specs.List.{list_any}
 use Rattle.std.specs.Option.{option_map}
-use Rattle.std.proofs.lemmas.Bool.{eqb-true}
 use Rattle.po_word.specs.Exprs.{Expr, expr_value}
 use Rattle.po_term.specs.declared.term.Reg.{Reg as Register}
-use Rattle.po_term.specs.declared.term.Reg.TheVariants.{Virt, Fp, Rv, Arg}
 use Rattle.po_term.specs.declared.term.Sym.{Sym}
 use Rattle.po_term.specs.declared.term.Label.{Label}
 use Rattle.po_term.specs.Terms.{Place}
@@ -17,7 +15,6 @@ use Rattle.po_simplify.proofs.Follows.{met_map}
 use Rattle.po_simplify.proofs.Instances.{values_carry, values_alike, same_carry, same_alike, same_asks, AnswerAlike}
 use Rattle.po_model.specs.declared.machine.Machine.{Machine}
 use Rattle.po_model.specs.declared.hole.PReg.{PReg}
-use Rattle.po_model.specs.declared.hole.PReg.TheVariants.{Hole, Fixed}
 use Rattle.po_model.specs.Machines.{IsMachine}
 use Rattle.po_model.specs.Parts.{code_leaves}
 use Rattle.po_model.specs.Joined.{is_control, joined}
@@ -29,53 +26,14 @@ use Rattle.po_model.specs.Generalised.{hole_register_eq, hole_leaves, is_live_in
 use Rattle.po_maps.proofs.Renames.{Renames}
 use Rattle.po_maps.proofs.CombinedFollows.{combined-follows}
 use Rattle.po_subst.proofs.Mapped.{moves_agree, moves_imply}
-use Rattle.po_general.proofs.Filling.{Proper, Stands, full_register, full_symbol, full_place, full_label}
+use Rattle.po_skel.proofs.Known.{register_itself, Stands}
+use Rattle.po_skel.proofs.Stand.{StandIn}
+use Rattle.po_skel.proofs.Live.{one_hole}
+use Rattle.po_skel.proofs.Fills.{Fills}
+use Rattle.po_general.proofs.Filling.{full_register, full_symbol, full_place, full_label}
 use Rattle.po_general.proofs.Filling.{full_renames, registers_apart, register_put, symbol_put, place_put, label_put}
-use Rattle.po_general.proofs.Standing.{StandIn, same_moves, ResultStands, result_stands}
+use Rattle.po_general.proofs.Standing.{same_moves, ResultStands, result_stands}
 use Rattle.po_term.specs.Moves.{PlainMove}
-
--- the pair is the shape with the values put in; where both instructions have a label, the first one's may be another
-pub record Fills (s : PlainShape) (v : PlainValues) (p : PlainPair) : Type 0 where
-  pub proper : Proper v
-  pub first_stands : StandIn v s.a
-  pub second_stands : StandIn v s.b
-  pub first : (map (put_move v) s.a ≡ p.a) ⊎ ((list_any is_control s.a ≡ true) × (list_any is_control p.a ≡ true))
-  pub second : map (put_move v) s.b ≡ p.b
-  -- the same registers are live
-  pub lives : (r : PReg) → is_live_in s r ≡ true → Stands v r
-  pub live : (r : PReg) → Stands v r → is_live_after p (put_register v r) ≡ is_live_in s r
-  pub named : (x : Register) → is_live_after p x ≡ true → (r : PReg) × Stands v r × (put_register v r ≡ x)
-  pub cc : p.cc ≡ s.cc
-
-pub one_register : (r q : Register) → reg_eq r q ≡ true → r ≡ q
-one_register (Virt m) (Virt n) h = ap Virt (eqb-true m n h)
-one_register Fp Fp h = refl
-one_register Rv Rv h = refl
-one_register (Arg m) (Arg n) h = ap Arg (eqb-true m n h)
-one_register (Virt m) Fp h = absurd (cc)
-one_register (Virt m) Rv h = absurd (cc)
-one_register (Virt m) (Arg n) h = absurd (cc)
-one_register Fp (Virt n) h = absurd (cc)
-one_register Fp Rv h = absurd (cc)
-one_register Fp (Arg n) h = absurd (cc)
-one_register Rv (Virt n) h = absurd (cc)
-one_register Rv Fp h = absurd (cc)
-one_register Rv (Arg n) h = absurd (cc)
-one_register (Arg m) (Virt n) h = absurd (cc)
-one_register (Arg m) Fp h = absurd (cc)
-one_register (Arg m) Rv h = absurd (cc)
-
-pub register_itself : (r : Register) → reg_eq r r ≡ true
-register_itself (Virt n) = eq-eqb n n refl
-register_itself Fp = refl
-register_itself Rv = refl
-register_itself (Arg n) = eq-eqb n n refl
-
-pub one_hole : (r q : PReg) → hole_register_eq r q ≡ true → r ≡ q
-one_hole (Hole j) (Hole k) h = ap Hole (eqb-true j k h)
-one_hole (Fixed r) (Fixed q) h = ap Fixed (one_register r q h)
-one_hole (Hole j) (Fixed q) h = absurd (cc)
-one_hole (Fixed r) (Hole k) h = absurd (cc)
 
 module _ (s : PlainShape) (v : PlainValues) (p : PlainPair) (fills : Fills s v p) where
   abbrev full_move : HoleMove → PlainMove

@@ -12,7 +12,6 @@ use Rattle.po_model.specs.Generalised.{reading, path, generalised}
 use Rattle.po_model.specs.Canonical.{Canonical}
 use Rattle.po_tsimp.specs.Made.{extended}
 use Rattle.po_tsimp.proofs.Paths.{extended_path}
-use Rattle.po_general.proofs.Own.{fills}
 use Rattle.po_general.proofs.Rules.{own_instance, is_canonical}
 
 abbrev rule_with : PlainShape → Asked → HoleCombination → PlainRule
@@ -46,7 +45,7 @@ pub canonical_by : (m n : Machine) (p : PlainPair) (r made : PlainRule) → IsMa
     → made ≡ generalised n p → n ≡ m → Canonical m r
 canonical_by m n p r made is e f g =
     subst (λ (s : PlainRule). Canonical m s) (sym (rule_through m n p r made e f g))
-    (is_canonical (λ q h. fills q h) m is p)
+    (is_canonical m is p)
 
 pub instance_by : (m n : Machine) (p : PlainPair) (r made : PlainRule) → r ≡ made → made ≡ generalised n p → n ≡ m
     → Instance r p

@@ -27,8 +27,10 @@ use Rattle.po_model.specs.Put.{combination_map}
 use Rattle.po_model.specs.Generalised.{hole_register_eq, hole_leaves, is_live_in, reading}
 use Rattle.po_maps.proofs.Renames.{Renames}
 use Rattle.po_maps.proofs.CombinedFollows.{combined-follows}
-use Rattle.po_subst.proofs.Mapped.{EachOf, moves_agree, moves_stay, moves_imply}
-use Rattle.po_general.proofs.Filling.{apart_map, Stands, StandsAt}
+use Rattle.po_subst.proofs.Mapped.{moves_agree, moves_stay, moves_imply}
+use Rattle.po_skel.proofs.Known.{Stands, StandsAt}
+use Rattle.po_skel.proofs.Stand.{StandIn}
+use Rattle.po_skel.proofs.Renamed.{apart_map}
 use Rattle.po_term.specs.Form.{IsFixed}
 
 -- the numbers below n stay, and each other one goes up
@@ -83,11 +85,6 @@ same_moves (Ends (CallOf s n) ∷ ms) = rw (same_moves ms) refl
 same_moves (Ends Return ∷ ms) = rw (same_moves ms) refl
 
 module _ (v : PlainValues) where
-  -- each hole has a value, and no other register than a hole or one with a name of its own stands there
-  abbrev pub StandIn : List HoleMove → Type 0
-  StandIn ms = EachOf (λ e. HasHoles e v.consts) (StandsAt v) (Stands v) (λ k. k < length v.syms)
-      (λ l. (l ≡ label_hole) × IsSome v.label) ms
-
   abbrev const_stay : Expr → Expr
   const_stay (Number c) = Number c
   const_stay (AtHole k) = if nat_lt k (length v.consts) then AtHole k else Number 0
@@ -142,7 +139,7 @@ module _ (v : PlainValues) where
       go None i = absurd (cc)
       go (Some m) i = refl
 
-  pub moves_stand : (ms : List HoleMove) → StandIn ms → map move_stay ms ≡ ms
+  pub moves_stand : (ms : List HoleMove) → StandIn v ms → map move_stay ms ≡ ms
   moves_stand ms h =
       moves_agree const_stay (λ c. c) place_stay (λ l. l) register_stay (λ r. r) symbol_stay (λ s. s) label_stay
       (λ l. l) ms
@@ -185,14 +182,14 @@ module _ (v : PlainValues) where
       go None i = absurd (omega arith)
       go (Some m) i = (one_label l label_hole (omega arith), refl)
 
-  pub moves_have : (ms : List HoleMove) → map move_stay ms ≡ ms → StandIn ms
+  pub moves_have : (ms : List HoleMove) → map move_stay ms ≡ ms → StandIn v ms
   moves_have ms h = moves_imply const_has place_has register_has (λ k i. below_stays (length v.syms) k i) label_has ms
       (moves_stay const_stay place_stay register_stay symbol_stay label_stay ms h)
 
   abbrev pub ResultStands : HoleCombination → Type 0
   ResultStands Kept = Unit {0}
   ResultStands Gone = Unit {0}
-  ResultStands (AsOne ms) = StandIn ms
+  ResultStands (AsOne ms) = StandIn v ms
 
   result_has : (c : HoleCombination) → combination_map move_stay c ≡ c → ResultStands c
   result_has Kept h = tt
@@ -357,7 +354,7 @@ module _ (v : PlainValues) where
       go false false e i = e ∙ sym i
 
   -- the reading of a shape stays as it is
-  pub reading_stays : (m : Machine) → IsMachine m → (s : PlainShape) → StandIn s.a → StandIn s.b
+  pub reading_stays : (m : Machine) → IsMachine m → (s : PlainShape) → StandIn v s.a → StandIn v s.b
       → ((r : PReg) → is_live_in s r ≡ true → Stands v r)
       → reading m v.consts s ≡ met_map const_stay (combination_map move_stay) (reading m v.consts s)
   reading_stays m is s a b lives =
@@ -369,13 +366,13 @@ module _ (v : PlainValues) where
       hole_leaves hole_leaves stay_carries stay_renames m is (is_live_in s) (is_live_in s) (live_stays s lives)
       s.cc s.a s.b (stay_alike (reading m v.consts s).asked)
 
-  pub result_stands : (m : Machine) → IsMachine m → (s : PlainShape) → StandIn s.a → StandIn s.b
+  pub result_stands : (m : Machine) → IsMachine m → (s : PlainShape) → StandIn v s.a → StandIn v s.b
       → ((r : PReg) → is_live_in s r ≡ true → Stands v r) → ResultStands (reading m v.consts s).got
   result_stands m is s a b lives =
       result_has (reading m v.consts s).got
       (sym (ap (λ (x : Met Expr HoleCombination). x.got) (reading_stays m is s a b lives)))
 
-  pub asked_stand : (m : Machine) → IsMachine m → (s : PlainShape) → StandIn s.a → StandIn s.b
+  pub asked_stand : (m : Machine) → IsMachine m → (s : PlainShape) → StandIn v s.a → StandIn v s.b
       → ((r : PReg) → is_live_in s r ≡ true → Stands v r) → AskedStand (reading m v.consts s).asked
   asked_stand m is s a b lives =
       asked_have (reading m v.consts s).asked

@@ -1,5 +1,5 @@
 //! What is promised of rules, each law the contract of a function that does nothing.
-ghost use Rattle.po_general.specs.Laws.{RulesAreCanonical, RulesAreFilled, OneRule};
+ghost use Rattle.po_general.specs.Laws.{RulesAreCanonical, RulesAreFilled, RulesCoverTheirShapes, OneRule};
 
 /// A pair is an instance of its rule; what becomes of each instance of the rule is the rule's result with the
 /// instance's values; and the rule is that of each of its instances (docs/RULES.md, "The rule of a pair").
@@ -17,4 +17,11 @@ pub fn rules_are_filled()
 /// pair").
 pub fn one_rule()
     ensures { OneRule }
+{}
+
+/// A pair's rule says what becomes of every well-formed pair of its shape: whatever the registers and symbols are, if
+/// different holes have different ones, whatever the label, and whatever constants give its questions the same answers
+/// (docs/RULES.md, "The rule of a pair").
+pub fn rules_cover_their_shapes()
+    ensures { RulesCoverTheirShapes }
 {}

@@ -7,5 +7,5 @@
 mod laws;
 mod rule;
 
-pub use laws::{one_rule, rules_are_canonical, rules_are_filled};
+pub use laws::{one_rule, rules_are_canonical, rules_are_filled, rules_cover_their_shapes};
 pub use rule::generalise;

@@ -8,6 +8,7 @@ ghost use Rattle.po_model.specs.Pairs.{pair_of};
 ghost use Rattle.po_model.specs.Holed.{rule_of};
 ghost use Rattle.po_model.specs.Agrees.{Instance};
 ghost use Rattle.po_model.specs.Generalised.{generalised};
+ghost use Rattle.po_model.specs.Canonical.{Canonical};
 
 use po_model::{Machine, Pair, Rule, Steps};
 use po_rule::Learned;
@@ -38,8 +39,8 @@ fn rule_of_pair(alloc: Global, m: &Machine, p: &Pair) -> Result<Rule, OutOfMemor
     })
 }
 
-/// The rule of a pair of well-formed instructions on a machine, which has the pair as an instance (docs/RULES.md,
-/// "The rule of a pair"). It fails only where memory is refused.
+/// The rule of a pair of well-formed instructions on a machine, which has the pair as an instance, and is right of each
+/// of its instances and the rule of each (docs/RULES.md, "The rule of a pair"). It fails only where memory is refused.
 pub fn generalise<L: Ledger>(
     alloc: Global,
     m: Arc<Machine>,
@@ -52,6 +53,7 @@ pub fn generalise<L: Ledger>(
     ensures machine { IfOk result (λ l. l.0 ≡ arc_value m) }
     ensures rule { IfOk result (λ l. rule_of l.1 ≡ generalised (arc_value m) (pair_of p.now)) }
     ensures instance { IfOk result (λ l. Instance (rule_of l.1) (pair_of p.now)) }
+    ensures canonical { IfOk result (λ l. Canonical (arc_value m) (rule_of l.1)) }
     ensures ticks { steps.new ≡ steps.old + 1 }
 {
     steps.tick();

@@ -19,3 +19,10 @@ returns-clause-instance g c =
     (rule_of c.in_ok-rule.rule)
     (ap (λ (r : Machine × Rule). rule_of r.1) c.new-2.ensures ∙ ap rule_of c.in_ok-rule-2.ensures.ok)
     c.in_ok-rule.ensures c.deref.ensures
+
+pub returns-clause-canonical : goal.returns-clause-canonical
+returns-clause-canonical g c =
+    canonical_by (arc_value c.args.m) c.deref.result.now (pair_of c.args.p.now) (rule_of c.new-2.result.1)
+    (rule_of c.in_ok-rule.rule) c.requires.machine
+    (ap (λ (r : Machine × Rule). rule_of r.1) c.new-2.ensures ∙ ap rule_of c.in_ok-rule-2.ensures.ok)
+    c.in_ok-rule.ensures c.deref.ensures
