@@ -1,0 +1,12 @@
+//! The texts of the rules of all pairs that were tried, sorted by bytes, each once (docs/RULES.md, "The rules of a run").
+//!
+//! `text` has the text of the rule of one pair, `distinct` sorts texts and leaves each once, and `reports` goes through
+//! what was tried, block by block.
+#![tactic(auto)]
+
+mod distinct;
+mod reports;
+mod text;
+
+pub use distinct::sorted_distinct;
+pub use reports::settle;

@@ -1,0 +1,4 @@
+-- Questions with their answers
+mod Answered
+-- Tables with one rule more
+pub mod Lists
