@@ -1,0 +1,2 @@
+-- A pair beside its rule
+pub mod Lessons
