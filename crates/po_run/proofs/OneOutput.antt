@@ -12,6 +12,7 @@ use Rattle.po_model.specs.UnitCodes.{PlainUnit, flat}
 use Rattle.po_slow.proofs.LivenessPasses.{same_test}
 use Rattle.po_run.specs.Output.{AreAssembled, IsOutputOf, TextsHaveOneOutput, naive_codes}
 use Rattle.po_run.proofs.Complete.{same_input}
+use Rattle.po_run.proofs.OneRules.{one_rules}
 use Rattle.po_run.proofs.OnlyOne.{one_list}
 use Rattle.po_term.specs.Moves.{PlainInstr}
 
@@ -60,5 +61,9 @@ one_output mode text out other (m, us, is, x) (n, ws, also, y) =
     let there : IsOutputOf mode m us other = subst (λ (m : Machine). IsOutputOf mode m us other) (sym same.0)
     (subst (λ (us : List StackUnit). IsOutputOf mode n us other) (sym same.1) y) in
     let made = one_list mode m (naive_codes us) x.made there.made x.codes there.codes in
-    one_text m there.made out other (subst (λ (vs : List PlainUnit). AreAssembled m vs out) made x.assembled)
-    there.assembled
+    let assembly : x.assembly ≡ there.assembly = one_text m there.made x.assembly there.assembly
+    (subst (λ (vs : List PlainUnit). AreAssembled m vs x.assembly) made x.assembled) there.assembled in
+    let rules : x.rules ≡ there.rules =
+    one_rules mode m (naive_codes us) x.rules there.rules x.are_rules there.are_rules in
+    x.text ∙ ap (λ (z : List ℕ). z ++ x.rules) assembly ∙ ap (λ (z : List ℕ). there.assembly ++ z) rules
+    ∙ sym there.text

@@ -17,7 +17,7 @@ use Rattle.po_model.specs.Naive.{naive}
 use Rattle.po_model.specs.Placed.{place_of, placed_at}
 use Rattle.po_model.specs.Run.{Run, Reply, IsReply, LiveWhere, AlikeAtStart, Same, SameResult}
 use Rattle.po_model.specs.UnitCodes.{PlainUnit, IsUnitCode, IsFormedCode, IsStraight}
-use Rattle.po_slow.specs.Passes.{KeepsForm}
+use Rattle.po_slow.specs.Passes.{KeepsForm, IsSlowedUnit}
 use Rattle.po_slow.proofs.KeptForm.{form_kept}
 use Rattle.po_slow.proofs.LivenessPasses.{make_nothing_live}
 use Rattle.po_slow.proofs.RunsPasses.{passes_keep_runs}
@@ -25,7 +25,7 @@ use Rattle.po_slow.proofs.RunsStart.{live_fixed}
 use Rattle.po_assign.proofs.PlacedRuns.{placed_runs}
 use Rattle.po_expand.proofs.CcAtStarts.{cc_dead}
 use Rattle.po_run.specs.declared.mode.Mode.{Mode}
-use Rattle.po_run.specs.declared.mode.Mode.TheVariants.{Naive, Slow}
+use Rattle.po_run.specs.declared.mode.Mode.TheVariants.{Naive, Slow, Opt}
 use Rattle.po_run.specs.Modes.{IsCodeIn}
 use Rattle.po_run.specs.Output.{HasRoom, naive_codes}
 use Rattle.po_run.specs.Runs.{AgreeOnFixed, RunAlike, RunsAsNaive, PlacedSlowedRunsAlike}
@@ -127,15 +127,21 @@ naive_runs : (m : Machine) (u : PlainUnit) → (IsLiveAt u.code 0 Cc → ⊥) �
 naive_runs m u dead h room live n s t replies tells alike are =
     placed_run m u live h.placeable.form h.placeable.straight room tells n s t replies alike (λ l. absurd (dead l)) are
 
+-- what all passes make of such a code
+slowed_runs : (m : Machine) (u v : PlainUnit) (tries : ℕ) → IsMachine m → IsSlowedUnit m u v tries
+    → (IsLiveAt u.code 0 Cc → ⊥) → IsUnitCode u → HasRoom m v → RunsAsNaive m u v
+slowed_runs m u v tries is s dead h room = λ live n x y replies tells alike are.
+    slowed_run m u.code v.code s.pairs live is h.placeable.form h.placeable.straight s.slowed room tells
+    n x y replies alike (λ l. absurd (dead l)) are
+
 -- a code that the mode makes of such a code
 code_runs : (mode : Mode) (m : Machine) (u v : PlainUnit) → IsMachine m → IsCodeIn mode m u v
     → (IsLiveAt u.code 0 Cc → ⊥) → IsUnitCode u → HasRoom m v → RunsAsNaive m u v
 code_runs Naive m u v is same dead h room =
     let here : HasRoom m u = subst (λ (v : PlainUnit). HasRoom m v) same room in
     subst (λ (v : PlainUnit). RunsAsNaive m u v) (sym same) (naive_runs m u dead h here)
-code_runs Slow m u v is (tries, s) dead h room = λ live n x y replies tells alike are.
-    slowed_run m u.code v.code s.pairs live is h.placeable.form h.placeable.straight s.slowed room tells
-    n x y replies alike (λ l. absurd (dead l)) are
+code_runs Slow m u v is (tries, s) dead h room = slowed_runs m u v tries is s dead h room
+code_runs Opt m u v is (tries, s) dead h room = slowed_runs m u v tries is s dead h room
 
 pub codes_run : (mode : Mode) (m : Machine) (us : List StackUnit) (vs : List PlainUnit) → IsMachine m
     → AllZip (IsCodeIn mode m) (naive_codes us) vs → All IsUnitCode (naive_codes us) → All (HasRoom m) vs

@@ -13,7 +13,7 @@ use Rattle.po_slow.specs.Passes.{IsSlowedUnit, KeepsForm}
 use Rattle.po_slow.proofs.KeptForm.{form_kept}
 use Rattle.po_slow.proofs.LivenessPasses.{keep_fit}
 use Rattle.po_run.specs.declared.mode.Mode.{Mode}
-use Rattle.po_run.specs.declared.mode.Mode.TheVariants.{Naive, Slow}
+use Rattle.po_run.specs.declared.mode.Mode.TheVariants.{Naive, Slow, Opt}
 use Rattle.po_run.specs.Modes.{IsCodeIn}
 use Rattle.po_run.specs.Output.{AllFit}
 use Rattle.po_run.specs.Steps.{units_of}
@@ -21,37 +21,37 @@ use Rattle.po_run.proofs.Each.{all_cons}
 use Rattle.po_run.proofs.Written.{units_append}
 
 -- the units so far went through all passes, and these are left
-pub record IsSlowing (m : Machine) (codes rest made : List UnitCode) : Type 0 where
+pub record IsSlowing (mode : Mode) (m : Machine) (codes rest made : List UnitCode) : Type 0 where
   pub formed : All IsUnitCode (units_of rest)
-  pub slowed : (vs : List PlainUnit) → AllZip (IsCodeIn Slow m) (units_of rest) vs
-      → AllZip (IsCodeIn Slow m) (units_of codes) (units_of made ++ vs)
+  pub slowed : (vs : List PlainUnit) → AllZip (IsCodeIn mode m) (units_of rest) vs
+      → AllZip (IsCodeIn mode m) (units_of codes) (units_of made ++ vs)
 
-pub slowing_begin : (m : Machine) (codes rest made : List UnitCode) → rest ≡ codes → made ≡ []
-    → All IsUnitCode (units_of codes) → IsSlowing m codes rest made
-slowing_begin m codes rest made e n formed = rw (e, n) (record { formed = formed; slowed = λ vs z. z })
+pub slowing_begin : (mode : Mode) (m : Machine) (codes rest made : List UnitCode) → rest ≡ codes → made ≡ []
+    → All IsUnitCode (units_of codes) → IsSlowing mode m codes rest made
+slowing_begin mode m codes rest made e n formed = rw (e, n) (record { formed = formed; slowed = λ vs z. z })
 
-pub first_code : (m : Machine) (codes rest more made : List UnitCode) (x : UnitCode) → IsSlowing m codes rest made
+pub first_code : (mode : Mode) (m : Machine) (codes rest more made : List UnitCode) (x : UnitCode) → IsSlowing mode m codes rest made
     → rest ≡ x ∷ more → IsFormedCode (unit_of x).code
-first_code m codes rest more made x h e =
+first_code mode m codes rest more made x h e =
     let first : IsUnitCode (unit_of x) = (subst (λ (r : List UnitCode). All IsUnitCode (units_of r)) e h.formed) zero
     (unit_of x) (omega arith) in
     first.placeable.form
 
-pub slowing_next : (m : Machine) (codes rest more made more_made : List UnitCode) (x y : UnitCode)
-    → IsSlowing m codes rest made → rest ≡ x ∷ more → more_made ≡ made ++ y ∷ []
-    → IsCodeIn Slow m (unit_of x) (unit_of y) → IsSlowing m codes more more_made
-slowing_next m codes rest more made more_made x y h e f made_so =
-    let here : IsSlowing m codes (x ∷ more) made = subst (λ (r : List UnitCode). IsSlowing m codes r made) e h in
+pub slowing_next : (mode : Mode) (m : Machine) (codes rest more made more_made : List UnitCode) (x y : UnitCode)
+    → IsSlowing mode m codes rest made → rest ≡ x ∷ more → more_made ≡ made ++ y ∷ []
+    → IsCodeIn mode m (unit_of x) (unit_of y) → IsSlowing mode m codes more more_made
+slowing_next mode m codes rest more made more_made x y h e f made_so =
+    let here : IsSlowing mode m codes (x ∷ more) made = subst (λ (r : List UnitCode). IsSlowing mode m codes r made) e h in
     rw f (record {
       formed = λ k d b. here.formed (suc k) d (omega arith);
       slowed = λ vs z. rw (units_append made y, append_assoc) (here.slowed (unit_of y ∷ vs) (made_so, z));
     })
 
-pub slowing_end : (m : Machine) (codes rest made : List UnitCode) → IsSlowing m codes rest made → rest ≡ []
-    → AllZip (IsCodeIn Slow m) (units_of codes) (units_of made)
-slowing_end m codes rest made h e =
-    let here : IsSlowing m codes [] made = subst (λ (r : List UnitCode). IsSlowing m codes r made) e h in
-    subst (λ (vs : List PlainUnit). AllZip (IsCodeIn Slow m) (units_of codes) vs) (append-nil (units_of made))
+pub slowing_end : (mode : Mode) (m : Machine) (codes rest made : List UnitCode) → IsSlowing mode m codes rest made → rest ≡ []
+    → AllZip (IsCodeIn mode m) (units_of codes) (units_of made)
+slowing_end mode m codes rest made h e =
+    let here : IsSlowing mode m codes [] made = subst (λ (r : List UnitCode). IsSlowing mode m codes r made) e h in
+    subst (λ (vs : List PlainUnit). AllZip (IsCodeIn mode m) (units_of codes) vs) (append-nil (units_of made))
     (here.slowed [] tt)
 
 -- What is so of each code that a mode makes
@@ -120,6 +120,7 @@ code_formed : (mode : Mode) (m : Machine) (u v : PlainUnit) → IsMachine m → 
     → IsUnitCode v
 code_formed Naive m u v is same h = rw same h
 code_formed Slow m u v is slowed h = slowed_formed m u v slowed.0 is slowed.1 h
+code_formed Opt m u v is slowed h = slowed_formed m u v slowed.0 is slowed.1 h
 
 pub made_formed : (mode : Mode) (m : Machine) (us vs : List PlainUnit) → IsMachine m → AllZip (IsCodeIn mode m) us vs
     → All IsUnitCode us → All IsUnitCode vs
@@ -134,10 +135,15 @@ pub record IsGood (m : Machine) (u : PlainUnit) : Type 0 where
 all_good : (m : Machine) (us : List PlainUnit) → All IsUnitCode us → All (AllFit m) us → All (IsGood m) us
 all_good m us formed fits = λ k d h. record { formed = formed k d h; fits = fits k d h }
 
+slowed_fits : (m : Machine) (u v : PlainUnit) (tries : ℕ) → IsMachine m → IsSlowedUnit m u v tries → IsGood m u
+    → AllFit m v
+slowed_fits m u v tries is slowed h = keep_fit m (combination m) u.code v.code slowed.pairs is (combination_safe m)
+    h.formed.placeable.form slowed.slowed h.fits
+
 code_fits : (mode : Mode) (m : Machine) (u v : PlainUnit) → IsMachine m → IsCodeIn mode m u v → IsGood m u → AllFit m v
 code_fits Naive m u v is same h = rw same h.fits
-code_fits Slow m u v is slowed h = keep_fit m (combination m) u.code v.code slowed.1.pairs is (combination_safe m)
-    h.formed.placeable.form slowed.1.slowed h.fits
+code_fits Slow m u v is slowed h = slowed_fits m u v slowed.0 is slowed.1 h
+code_fits Opt m u v is slowed h = slowed_fits m u v slowed.0 is slowed.1 h
 
 pub made_fits : (mode : Mode) (m : Machine) (us vs : List PlainUnit) → IsMachine m → AllZip (IsCodeIn mode m) us vs
     → All IsUnitCode us → All (AllFit m) us → All (AllFit m) vs

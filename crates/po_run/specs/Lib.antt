@@ -1,5 +1,7 @@
 pub mod Input
 pub mod Modes
+pub mod Rules
+pub mod Opting
 pub mod Runs
 pub mod Output
 pub mod Statuses

@@ -6,12 +6,13 @@ use Rattle.po_model.specs.declared.machine.Machine.{Machine}
 use Rattle.po_model.specs.UnitCodes.{PlainUnit}
 use Rattle.po_slow.specs.Passes.{IsSlowedUnit}
 use Rattle.po_run.specs.declared.mode.Mode.{Mode}
-use Rattle.po_run.specs.declared.mode.Mode.TheVariants.{Naive, Slow}
+use Rattle.po_run.specs.declared.mode.Mode.TheVariants.{Naive, Slow, Opt}
 
 -- the word that names a mode
 abbrev pub word_of : Mode → List ℕ
 word_of Naive = codes "naive"
 word_of Slow = codes "slow"
+word_of Opt = codes "opt"
 
 -- the word names this mode, or none
 abbrev pub Names : List ℕ → Option Mode → Type 0
@@ -31,10 +32,12 @@ abbrev pub NamesMode : List (String Global) → Option Mode → Type 0
 NamesMode words (Some mode) = IsMode mode words
 NamesMode words None = IsNoMode words
 
--- v is the code that the mode makes of the naive code u: in `naive` it stays, in `slow` all passes go over it
+-- v is the code that the mode makes of the naive code u: in `naive` it stays, in `slow` and
+-- `opt` all passes go over it
 abbrev pub IsCodeIn : Mode → Machine → PlainUnit → PlainUnit → Type 0
 IsCodeIn Naive m u v = v ≡ u
 IsCodeIn Slow m u v = (tries : ℕ) × IsSlowedUnit m u v tries
+IsCodeIn Opt m u v = (tries : ℕ) × IsSlowedUnit m u v tries
 
 -- any two codes that a mode makes of a unit are the same
 abbrev pub ModesMakeOneCode : Type 0

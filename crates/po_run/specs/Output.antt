@@ -11,6 +11,7 @@ use Rattle.po_model.specs.Assembly.{IsAssembly}
 use Rattle.po_run.specs.declared.mode.Mode.{Mode}
 use Rattle.po_run.specs.Input.{IsInput}
 use Rattle.po_run.specs.Modes.{IsCodeIn}
+use Rattle.po_run.specs.Rules.{AreRulesIn}
 use Rattle.po_run.specs.Runs.{RunsAsNaive}
 
 -- the first bad one of these has the number n; those before it are good
@@ -54,7 +55,12 @@ pub record IsOutputOf (mode : Mode) (m : Machine) (us : List StackUnit) (out : L
   pub codes : AreCodesIn mode m us made
   pub fit : All (AllFit m) made
   pub room : All (HasRoom m) made
-  pub assembled : AreAssembled m made out
+  pub assembly : List ℕ
+  pub assembled : AreAssembled m made assembly
+  -- behind the assembly there is nothing in `naive` and `slow`, and in `opt` the rules of all pairs that the passes try
+  pub rules : List ℕ
+  pub are_rules : AreRulesIn mode m (naive_codes us) rules
+  pub text : out ≡ assembly ++ rules
   -- the placed code of each unit runs as its naive code
   pub runs : AllZip (RunsAsNaive m) (naive_codes us) made
 

@@ -7,4 +7,6 @@ pub enum Mode {
     Naive,
     /// All passes go over it, and what they make is placed.
     Slow,
+    /// As `Slow`, by rules that are learned on the way; they are written behind the assembly.
+    Opt,
 }

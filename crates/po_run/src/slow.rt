@@ -1,17 +1,18 @@
-//! The codes of all units in a mode: naive, or what all passes make of it.
+//! The mode `slow`: all passes over each unit.
 
 ghost use Rattle.std.specs.Prelude.{◌≡◌, ◌<◌, All, length, IfOk};
 ghost use Rattle.std.specs.List.{AllZip};
 ghost use Rattle.po_model.specs.Machines.{IsMachine};
 ghost use Rattle.po_model.specs.UnitCodes.{IsUnitCode};
+ghost use Rattle.po_recog.specs.Indexes.{IsIndexOf};
 ghost use Rattle.po_run.specs.declared.mode.Mode.TheVariants.{Slow};
 ghost use Rattle.po_run.specs.Modes.{IsCodeIn};
 ghost use Rattle.po_run.specs.Steps.{units_of};
 
-use crate::mode::Mode;
 use crate::units::push_code;
 use po_model::{Machine, Steps, UnitCode};
-use po_slow::slow_unit;
+use po_recog::Index;
+use po_slow::slow_unit_by;
 use po_word::OutOfMemory;
 use std::alloc::Global;
 use std::marker::Brand;
@@ -21,10 +22,12 @@ use std::sync::ledger::{Blank, Ledger};
 fn slow_counted<L: Ledger>(
     alloc: Global,
     machine: &Machine,
+    index: &Index,
     codes: Vec<UnitCode>,
     ledger: Blank,
 ) -> Result<Vec<UnitCode>, OutOfMemory>
     requires machine { IsMachine machine.now }
+    requires index { IsIndexOf machine.now index.now }
     requires formed { All IsUnitCode (units_of codes.items) }
     requires name { ledger.name ≡ L.name }
     requires parts { ledger.parts ≡ L.parts }
@@ -35,44 +38,26 @@ fn slow_counted<L: Ledger>(
     let mut steps = Steps::<L>::new(ledger);
     let mut slowed = Vec::new(alloc);
     for code in codes {
-        push_code(&mut slowed, slow_unit(alloc, machine, code, &mut steps)?)?;
+        push_code(
+            &mut slowed,
+            slow_unit_by(alloc, machine, index, code, &mut steps)?,
+        )?;
     }
     Ok(slowed)
 }
 
 /// What all passes make of each code.
-fn slow_all(
+pub fn slow_all(
     alloc: Global,
     machine: &Machine,
+    index: &Index,
     codes: Vec<UnitCode>,
 ) -> Result<Vec<UnitCode>, OutOfMemory>
     requires machine { IsMachine machine.now }
+    requires index { IsIndexOf machine.now index.now }
     requires formed { All IsUnitCode (units_of codes.items) }
     ensures { IfOk result (λ slowed.
         AllZip (IsCodeIn Slow machine.now) (units_of codes.items) (units_of slowed.items)) }
 {
-    slow_counted::<Brand>(alloc, machine, codes, Blank::new(1))
-}
-
-/// The codes of the mode, from the naive code of each unit.
-pub fn codes_in(
-    alloc: Global,
-    mode: Mode,
-    machine: &Machine,
-    codes: Vec<UnitCode>,
-) -> Result<Vec<UnitCode>, OutOfMemory>
-    requires machine { IsMachine machine.now }
-    requires formed { All IsUnitCode (units_of codes.items) }
-    ensures made { IfOk result (λ made.
-        AllZip (IsCodeIn mode machine.now) (units_of codes.items) (units_of made.items)) }
-    ensures count { IfOk result (λ made. length made.items ≡ length codes.items) }
-    ensures formed { IfOk result (λ made. All IsUnitCode (units_of made.items)) }
-{
-    match mode {
-        Mode::Naive => Ok(codes),
-        Mode::Slow => {
-            let slowed = slow_all(alloc, machine, codes)?;
-            Ok(slowed)
-        }
-    }
+    slow_counted::<Brand>(alloc, machine, index, codes, Blank::new(1))
 }

@@ -5,15 +5,17 @@ ghost use Rattle.po_ir.specs.Units.{IsUnit};
 ghost use Rattle.po_model.specs.Machines.{IsMachine};
 ghost use Rattle.po_model.specs.UnitCodes.{unit_of, IsUnitCode};
 ghost use Rattle.po_model.specs.Naive.{naive};
+ghost use Rattle.po_recog.specs.Indexes.{IsIndexOf};
 ghost use Rattle.po_run.specs.Output.{AreAssembled};
 ghost use Rattle.po_run.specs.Steps.{units_of, placed_of, Checked, Assigned, ArePlaced, IsMemory};
 
 use crate::refusal::Refusal;
 use po_assign::{AssignRefusal, Placed, assign};
-use po_emit::emit;
-use po_expand::{CheckRefusal, check, expand};
+use po_emit::emit_by;
+use po_expand::{CheckRefusal, check_by, expand};
 use po_ir::Unit;
 use po_model::{Machine, UnitCode};
+use po_recog::Index;
 use po_word::OutOfMemory;
 use std::alloc::Global;
 
@@ -41,15 +43,21 @@ pub fn expand_all(alloc: Global, units: &[Unit]) -> Result<Vec<UnitCode>, OutOfM
 }
 
 /// Whether each instruction of each unit fits an entry; the first that doesn't is named.
-pub fn check_all(alloc: Global, machine: &Machine, codes: &[UnitCode]) -> Result<(), Refusal>
+pub fn check_all(
+    alloc: Global,
+    machine: &Machine,
+    index: &Index,
+    codes: &[UnitCode],
+) -> Result<(), Refusal>
     requires machine { IsMachine machine.now }
+    requires index { IsIndexOf machine.now index.now }
     requires formed { All IsUnitCode (units_of codes.now) }
     requires few { length codes.now < 2 ^ 32 }
     ensures { Checked machine.now (units_of codes.now) result }
 {
     let mut unit = 0;
     for code in codes {
-        match check(alloc, machine, code) {
+        match check_by(alloc, machine, index, code) {
             Ok(()) => (),
             Err(CheckRefusal::Unrecognised { block, index }) => {
                 return Err(Refusal::Unrecognised { unit, block, index });
@@ -102,15 +110,21 @@ pub fn assign_all(
 }
 
 /// The assembly of all units.
-pub fn emit_all(alloc: Global, machine: &Machine, all: &[Placed]) -> Result<Vec<u8>, OutOfMemory>
+pub fn emit_all(
+    alloc: Global,
+    machine: &Machine,
+    index: &Index,
+    all: &[Placed],
+) -> Result<Vec<u8>, OutOfMemory>
     requires machine { IsMachine machine.now }
+    requires index { IsIndexOf machine.now index.now }
     requires formed { All IsUnitCode (placed_of all.now) }
     requires placed { ArePlaced machine.now all.now }
     ensures { IfOk result (λ out. AreAssembled machine.now (placed_of all.now) out.items) }
 {
     let mut out = Vec::new(alloc);
     for placed in all {
-        emit(alloc, machine, placed, &mut out)?;
+        emit_by(alloc, machine, index, placed, &mut out)?;
     }
     Ok(out)
 }

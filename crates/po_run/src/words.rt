@@ -17,6 +17,12 @@ fn is_slow(word: &str) -> bool
     word == "slow"
 }
 
+fn is_opt(word: &str) -> bool
+    ensures { IsTrue result ↔ (word.now ≡ codes "opt") }
+{
+    word == "opt"
+}
+
 /// The mode that a word names.
 fn mode_named(word: &str) -> Option<Mode>
     ensures { Names word.now result }
@@ -25,6 +31,8 @@ fn mode_named(word: &str) -> Option<Mode>
         Some(Mode::Naive)
     } else if is_slow(word) {
         Some(Mode::Slow)
+    } else if is_opt(word) {
+        Some(Mode::Opt)
     } else {
         None
     }

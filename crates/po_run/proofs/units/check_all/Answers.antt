@@ -6,16 +6,16 @@ use Rattle.po_run.proofs.Each.{all_at, good_next, bad_next, bad_here}
 use Rattle.po_run.proofs.Refused.{unrecognised}
 use Rattle.po_run.proofs.units.check_all.Goals as goal
 
-pub check-requires-clause-code : goal.check-requires-clause-code
-check-requires-clause-code c = (all_at IsUnitCode unit_of c.args.codes.now c.loop-code.code-index c.code-item.result
+pub check_by-requires-clause-code : goal.check_by-requires-clause-code
+check_by-requires-clause-code c = (all_at IsUnitCode unit_of c.args.codes.now c.loop-code.code-index c.code-item.result
     c.requires.formed c.loop-code-test.true c.code-item.is).placeable.form.ends_last
 
-pub check-requires-clause-few_instrs : goal.check-requires-clause-few_instrs
-check-requires-clause-few_instrs c = (all_at IsUnitCode unit_of c.args.codes.now c.loop-code.code-index
+pub check_by-requires-clause-few_instrs : goal.check_by-requires-clause-few_instrs
+check_by-requires-clause-few_instrs c = (all_at IsUnitCode unit_of c.args.codes.now c.loop-code.code-index
     c.code-item.result c.requires.formed c.loop-code-test.true c.code-item.is).placeable.few_instrs
 
-pub check-requires-clause-few_blocks : goal.check-requires-clause-few_blocks
-check-requires-clause-few_blocks c = (all_at IsUnitCode unit_of c.args.codes.now c.loop-code.code-index
+pub check_by-requires-clause-few_blocks : goal.check_by-requires-clause-few_blocks
+check_by-requires-clause-few_blocks c = (all_at IsUnitCode unit_of c.args.codes.now c.loop-code.code-index
     c.code-item.result c.requires.formed c.loop-code-test.true c.code-item.is).placeable.few_blocks
 
 pub returns-in-Err-Unrecognised : goal.returns-in-Err-Unrecognised
