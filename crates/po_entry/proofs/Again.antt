@@ -54,7 +54,7 @@ line_is : (clobbers : Bool) (pattern template : List ℕ) → codes "insn " ++ p
 line_is true pattern template = parts_of_line (codes "insn ") pattern (codes " clobber cc") (codes " => ") template
 line_is false pattern template = parts_of_line (codes "insn ") pattern [] (codes " => ") template
 
-backs : (xs : List PatTransfer) → map back_move (pat_moves_of xs) ≡ xs
+pub backs : (xs : List PatTransfer) → map back_move (pat_moves_of xs) ≡ xs
 backs [] = refl
 backs (x ∷ xs) = ap (λ (y : PatTransfer). y ∷ map back_move (pat_moves_of xs)) (back_move_again x)
     ∙ ap (λ (ys : List PatTransfer). x ∷ ys) (backs xs)

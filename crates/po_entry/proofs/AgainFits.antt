@@ -16,7 +16,7 @@ use Rattle.po_pattern.specs.declared.operands.Operands.{Operands}
 use Rattle.po_pattern.specs.declared.operands.OperandKind.{OperandKind}
 use Rattle.po_pattern.specs.declared.operands.OperandKind.TheVariants.{Register, Constant, Symbol, Label}
 use Rattle.po_pattern.specs.Seen.{none_seen, kind_of, with_operand, same_kind, may_be, is_new}
-use Rattle.po_entry.proofs.Told.{sort_of, Tells, none_told, told_more}
+use Rattle.po_pattern.proofs.Told.{sort_of, Tells, none_told, told_more}
 use Rattle.po_entry.proofs.Noted.{kind_at, noted, MayStand, Fits}
 
 -- digits are digits

@@ -121,7 +121,7 @@ all_go (b ∷ bs) m h =
     let rest = all_go bs m (All-tail (λ x. GoesBefore x m) b bs h) in
     rw (first, rest) refl
 
-may_again : (bs : List PatMove) (m : PatMove) → length bs < 4 → IsPatMove m → All (λ b. GoesBefore b m) bs
+pub may_again : (bs : List PatMove) (m : PatMove) → length bs < 4 → IsPatMove m → All (λ b. GoesBefore b m) bs
     → may_follow (map back_move bs) (back_move m) ≡ true
 unfolding may_follow
 may_again bs m few h before =
@@ -132,7 +132,8 @@ may_again bs m few h before =
     rw (long, room, fp, all) refl
 
 -- those before a transfer
-before_it : (bs ms : List PatMove) (m : PatMove) → AllPairs GoesBefore (bs ++ m ∷ ms) → All (λ b. GoesBefore b m) bs
+pub before_it : (bs ms : List PatMove) (m : PatMove) → AllPairs GoesBefore (bs ++ m ∷ ms)
+    → All (λ b. GoesBefore b m) bs
 before_it bs ms m pairs = λ i d l.
     let long = length-append bs (m ∷ ms) in
     let found : GoesBefore (get_or (bs ++ m ∷ ms) i d) (get_or (bs ++ m ∷ ms) (length bs) d) =

@@ -84,7 +84,7 @@ other_front : (b d : ℕ) (bs ds : List ℕ) (n : ℕ) → nat_eq b d ≡ false 
 other_front b d bs ds zero e = refl
 other_front b d bs ds (suc n) e = rw e refl
 
-says_other : (b d c : ℕ) (bs ds : List ℕ) → nat_eq b d ≡ false → says (d ∷ ds) (at c (b ∷ bs)) ≡ false
+pub says_other : (b d c : ℕ) (bs ds : List ℕ) → nat_eq b d ≡ false → says (d ∷ ds) (at c (b ∷ bs)) ≡ false
 unfolding word_here
 says_other b d c bs ds e = other_front b d bs ds (prefix_len is_word_byte (b ∷ bs)) e
 
@@ -105,7 +105,7 @@ ended_again m value rest seen e a = let none = skip_one a.column rest e in rw no
 
 -- whole registers, terms, addresses, labels and symbols
 
-reg_behind : (r : PatReg) (c : ℕ) (rest : List ℕ) (seen : Operands) → IsPatReg r → Fits seen (reg_places r)
+pub reg_behind : (r : PatReg) (c : ℕ) (rest : List ℕ) (seen : Operands) → IsPatReg r → Fits seen (reg_places r)
     → Stops rest → Again (parts.register (at c (pat_reg_text r ++ rest)) seen) r rest (noted seen (reg_places r))
 unfolding parts.register
 reg_behind (Any k) c rest seen h fits stops =
@@ -258,13 +258,13 @@ call_again k c rest seen h fits f =
 
 -- relations
 
-record IsRelWord (r : Rel) (w : List ℕ) : Type 0 where
-  word : list_all is_word_byte w ≡ true
-  is : transfers.relation_of w ≡ Some r
-  solid : (tail : List ℕ) → prefix_len is_blank (w ++ tail) ≡ 0
-  plain : (tail : List ℕ) → begins 91 (w ++ tail) ≡ false
+pub record IsRelWord (r : Rel) (w : List ℕ) : Type 0 where
+  pub word : list_all is_word_byte w ≡ true
+  pub is : transfers.relation_of w ≡ Some r
+  pub solid : (tail : List ℕ) → prefix_len is_blank (w ++ tail) ≡ 0
+  pub plain : (tail : List ℕ) → begins 91 (w ++ tail) ≡ false
 
-rel_word : (r : Rel) → IsRelWord r (rel_text r)
+pub rel_word : (r : Rel) → IsRelWord r (rel_text r)
 rel_word Eq = record { word = refl; is = refl; solid = λ tail. refl; plain = λ tail. refl }
 rel_word Ne = record { word = refl; is = refl; solid = λ tail. refl; plain = λ tail. refl }
 rel_word Lt = record { word = refl; is = refl; solid = λ tail. refl; plain = λ tail. refl }
@@ -369,13 +369,13 @@ if_two_again t u r k c rest seen h g small fits more last f =
     record { column = got.column; is = rw word (rw (no, first) (rw is refl)) }
 
 -- no keyword stands here
-record NoKeyword (r : Rest) : Type 0 where
-  goto_no : says (codes "goto") r ≡ false
-  call_no : says (codes "call") r ≡ false
-  ret_no : says (codes "ret") r ≡ false
-  if_no : says (codes "if") r ≡ false
+pub record NoKeyword (r : Rest) : Type 0 where
+  pub goto_no : says (codes "goto") r ≡ false
+  pub call_no : says (codes "call") r ≡ false
+  pub ret_no : says (codes "ret") r ≡ false
+  pub if_no : says (codes "if") r ≡ false
 
-other_than_keywords : (b c : ℕ) (bs : List ℕ) → nat_eq b 103 ≡ false → nat_eq b 99 ≡ false → nat_eq b 114 ≡ false
+pub other_than_keywords : (b c : ℕ) (bs : List ℕ) → nat_eq b 103 ≡ false → nat_eq b 99 ≡ false → nat_eq b 114 ≡ false
     → nat_eq b 105 ≡ false → NoKeyword (at c (b ∷ bs))
 other_than_keywords b c bs g k r i = record {
   goto_no = says_other b 103 c bs _ g;
@@ -385,12 +385,12 @@ other_than_keywords b c bs g k r i = record {
 }
 
 -- a register that is to be set stands here
-record BeginsSet (r : Rest) : Type 0 where
-  none : NoKeyword r
-  cc_no : says (codes "cc") r ≡ false
-  memory_no : transfers.begins_memory r ≡ false
+pub record BeginsSet (r : Rest) : Type 0 where
+  pub none : NoKeyword r
+  pub cc_no : says (codes "cc") r ≡ false
+  pub memory_no : transfers.begins_memory r ≡ false
 
-named_other : (b : ℕ) (bs : List ℕ) (n : ℕ) → nat_eq b 77 ≡ false → same (take n (b ∷ bs)) (codes "M") ≡ false
+pub named_other : (b : ℕ) (bs : List ℕ) (n : ℕ) → nat_eq b 77 ≡ false → same (take n (b ∷ bs)) (codes "M") ≡ false
 named_other b bs n e = other_front b 77 bs [] n e
 
 reg_begins : (r : PatReg) (c : ℕ) (rest : List ℕ) → IsPatReg r → BeginsSet (at c (pat_reg_text r ++ (32 ∷ rest)))
@@ -427,7 +427,7 @@ reg_begins (Fixed (Arg n)) c rest h = record {
   memory_no = named_other 97 _ _ refl;
 }
 
-setting : (r : Rest) (seen : Operands) → NoKeyword r → transfers.transfer_in r seen ≡ transfers.setting_in r seen
+pub setting : (r : Rest) (seen : Operands) → NoKeyword r → transfers.transfer_in r seen ≡ transfers.setting_in r seen
 unfolding transfers.transfer_in
 setting r seen h =
     let goto_no = h.goto_no in
@@ -436,7 +436,7 @@ setting r seen h =
     let if_no = h.if_no in
     rw (goto_no, call_no, ret_no, if_no) refl
 
-register_set : (r : Rest) (seen : Operands) → BeginsSet r → transfers.transfer_in r seen ≡ transfers.set_in r seen
+pub register_set : (r : Rest) (seen : Operands) → BeginsSet r → transfers.transfer_in r seen ≡ transfers.set_in r seen
 unfolding transfers.setting_in
 register_set r seen h =
     let cc_no = h.cc_no in

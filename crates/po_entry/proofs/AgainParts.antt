@@ -106,7 +106,7 @@ small_pos n h = omega (arith, ints)
 pub small_neg : (n : ℕ) → negsuc 2147483647 ≤ℤ negsuc n → suc n < 2 ^ 32
 small_neg n h = omega (arith, ints)
 
-no_minus : (d : ℕ) → is_digit d ≡ true → (d == 45) ≡ false
+pub no_minus : (d : ℕ) → is_digit d ≡ true → (d == 45) ≡ false
 no_minus d h = grind (arith, nat_tests)
 
 digits_length : (ds rest : List ℕ) → 0 < length ds → list_all is_digit ds ≡ true → prefix_len is_digit rest ≡ 0

@@ -22,7 +22,7 @@ use Rattle.po_entry.specs.EntryText.{is_mark, byte_text, piece_text, template_te
 use Rattle.po_entry.specs.ListRules.{sets_cc, clobber_in}
 use Rattle.po_entry.specs.Template.{arrow, kind_by, piece_by, is_seen, template_step, template_from, nothing_yet}
 use Rattle.po_entry.specs.Template.{whole_with, template_in}
-use Rattle.po_entry.proofs.Told.{sort_of, Tells}
+use Rattle.po_pattern.proofs.Told.{sort_of, Tells}
 use Rattle.po_entry.proofs.Noted.{kind_at}
 use Rattle.po_entry.proofs.AgainParts.{at, Again, mark_again, digit_here}
 use Rattle.po_entry.proofs.AgainMoves.{says_again, after_is, behind_is, keyword_again, word_says, back_move}
@@ -30,7 +30,7 @@ use Rattle.po_entry.proofs.AgainFits.{AreSmall, kind_again}
 
 -- `clobber cc`
 
-no_cc : (ms : List PatMove) → All (λ m. kind_of_move m ≢ 1) ms → list_any sets_cc (map back_move ms) ≡ false
+pub no_cc : (ms : List PatMove) → All (λ m. kind_of_move m ≢ 1) ms → list_any sets_cc (map back_move ms) ≡ false
 no_cc [] h = refl
 no_cc (m ∷ ms) h =
     let first : sets_cc (back_move m) ≡ false = leaves_cc m (All-head (λ m. kind_of_move m ≢ 1) m ms h) in
@@ -173,13 +173,15 @@ piece_again ps seen (piece.Label k) c pieces more told small h =
     let few = small_among ps k OfLabel small h in (
       c + 1 + 1,
       ap (λ (w : List ℕ). from_here seen c pieces (codes "@" ++ w ++ more)) (decimal_digit k few)
-          ∙ one_operand seen c 64 k pieces more refl (grind (arith, nat_tests)) few (seen_among ps seen k Label told h),
+          ∙ one_operand seen c 64 k pieces more refl (grind (arith, nat_tests)) few
+          (seen_among ps seen k Label told h),
     )
 piece_again ps seen (piece.Sym k) c pieces more told small h =
     let few = small_among ps k OfSym small h in (
       c + 1 + 1,
       ap (λ (w : List ℕ). from_here seen c pieces (codes "&" ++ w ++ more)) (decimal_digit k few)
-          ∙ one_operand seen c 38 k pieces more refl (grind (arith, nat_tests)) few (seen_among ps seen k Symbol told h),
+          ∙ one_operand seen c 38 k pieces more refl (grind (arith, nat_tests)) few
+          (seen_among ps seen k Symbol told h),
     )
 
 pieces_again : (ps : List Place) (seen : Operands) (xs : List Piece) (c : ℕ) (pieces : List Piece) → Tells seen ps

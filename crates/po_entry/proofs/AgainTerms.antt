@@ -51,19 +51,19 @@ use Rattle.po_term.specs.Form.{IsFixed}
 pub record Reaches (s t : Reading) (n : ℕ) : Type 0 where
   pub go : (k : ℕ) → n ≤ k → steps k s ≡ steps (k - n) t
 
-reaches_none : (s : Reading) → Reaches s s 0
+pub reaches_none : (s : Reading) → Reaches s s 0
 reaches_none s = record { go = λ k h. let same : k ≡ k - 0 = omega arith in ap (λ (n : ℕ). steps n s) same }
 
-reaches_one : (s t : Reading) → step s ≡ Ok t → Reaches s t 1
+pub reaches_one : (s t : Reading) → step s ≡ Ok t → Reaches s t 1
 reaches_one s t e = record { go = λ k h. steps_next k s t (omega (arith, h)) e }
 
-reaches_more : (s t u : Reading) (n m : ℕ) → Reaches s t n → Reaches t u m → Reaches s u (n + m)
+pub reaches_more : (s t u : Reading) (n m : ℕ) → Reaches s t n → Reaches t u m → Reaches s u (n + m)
 reaches_more s t u n m f g = record {
   go = λ k h. let same : k - n - m ≡ k - (n + m) = omega arith in f.go k (omega (arith, h))
       ∙ g.go (k - n) (omega (arith, h)) ∙ ap (λ (j : ℕ). steps j u) same;
 }
 
-abbrev turn_at : List Frame → Turn → ℕ → List ℕ → Operands → Reading
+abbrev pub turn_at : List Frame → Turn → ℕ → List ℕ → Operands → Reading
 turn_at frames turn column bytes seen = record {
   frames = frames;
   turn = record { value = turn; rest = at column bytes; seen = seen };
@@ -113,7 +113,7 @@ front_facts b (inr e) = record {
     last true e = refl
     last false e = e
 
-numeral_wanted : (b : ℕ) (bs rest : List ℕ) (c : ℕ) (seen : Operands) (x : Read PatTerm) → (b ≡ 45)
+pub numeral_wanted : (b : ℕ) (bs rest : List ℕ) (c : ℕ) (seen : Operands) (x : Read PatTerm) → (b ≡ 45)
     ⊎ (is_digit b ≡ true) → parts.numeral (at c ((b ∷ bs) ++ rest)) seen ≡ Ok x → wanted (at c ((b ∷ bs) ++ rest))
     seen ≡ Ok (leaf x)
 unfolding wanted marked_leaf
@@ -127,9 +127,9 @@ numeral_wanted b bs rest c seen x h e =
     rw (open_no, leaf_yes, reg_no, const_no, symbol_no) (rw e refl)
 
 -- a leaf that was read
-record LeafAt (t : PatTree) (m : Result (Read Turn) LineFault) (rest : List ℕ) (seen : Operands) : Type 0 where
-  column : ℕ
-  is : m ≡ Ok (leaf (record { value = back t; rest = at column rest; seen = seen }))
+pub record LeafAt (t : PatTree) (m : Result (Read Turn) LineFault) (rest : List ℕ) (seen : Operands) : Type 0 where
+  pub column : ℕ
+  pub is : m ≡ Ok (leaf (record { value = back t; rest = at column rest; seen = seen }))
 
 exactly_at : (n c : ℕ) (rest : List ℕ) (seen : Operands) → n < 2 ^ 32 → Stops rest → LeafAt (Const (Exactly n))
     (wanted (at c (const_text n ++ rest)) seen) rest seen
@@ -185,7 +185,7 @@ fixed_wanted Fp c rest seen h = refl
 fixed_wanted Rv c rest seen h = refl
 fixed_wanted (Arg n) c rest seen h = refl
 
-leaf_at : (l : PatLeaf) (c : ℕ) (rest : List ℕ) (seen : Operands) → IsPatLeaf l → Fits seen (leaf_places l)
+pub leaf_at : (l : PatLeaf) (c : ℕ) (rest : List ℕ) (seen : Operands) → IsPatLeaf l → Fits seen (leaf_places l)
     → Stops rest → LeafAt (Leaf l) (wanted (at c (pat_leaf_text l ++ rest)) seen) rest (noted seen (leaf_places l))
 unfolding wanted marked_leaf
 leaf_at (InPatReg (Any k)) c rest seen h f stops =
@@ -236,17 +236,17 @@ kept_again t s d size depth e f few flat =
     rw (few_yes, flat_yes) refl in
     ap (λ (n : ℕ). kept t n d) e ∙ ap (λ (n : ℕ). kept t size n) f ∙ whole
 
-memory_again : (a : PatTree) → tree_size (tree.Read a) ≤ 64 → tree_depth (tree.Read a) ≤ 16
+pub memory_again : (a : PatTree) → tree_size (tree.Read a) ≤ 64 → tree_depth (tree.Read a) ≤ 16
     → memory_part (Some (part_of a)) ≡ Some (part_of (tree.Read a))
 memory_again a few flat = kept_again (pat.Mem (back a)) (tree_size a + 1) (tree_depth a + 1) (tree_size (tree.Read a))
     (tree_depth (tree.Read a)) (omega arith) (omega arith) few flat
 
-unary_again : (o : Un) (a : PatTree) → tree_size (Unary o a) ≤ 64 → tree_depth (Unary o a) ≤ 16
+pub unary_again : (o : Un) (a : PatTree) → tree_size (Unary o a) ≤ 64 → tree_depth (Unary o a) ≤ 16
     → unary_part o (Some (part_of a)) ≡ Some (part_of (Unary o a))
 unary_again o a few flat = kept_again (pat.Un o (back a)) (tree_size a + 1) (tree_depth a + 1) (tree_size (Unary o a))
     (tree_depth (Unary o a)) (omega arith) (omega arith) few flat
 
-binary_again : (o : Bin) (a b : PatTree) → tree_size (Binary o a b) ≤ 64 → tree_depth (Binary o a b) ≤ 16
+pub binary_again : (o : Bin) (a b : PatTree) → tree_size (Binary o a b) ≤ 64 → tree_depth (Binary o a b) ≤ 16
     → binary_part o (Some (part_of a)) (Some (part_of b)) ≡ Some (part_of (Binary o a b))
 binary_again o a b few flat =
     kept_again (pat.Bin o (back a) (back b)) (tree_size a + (tree_size b + 1)) (max (tree_depth a) (tree_depth b) + 1)

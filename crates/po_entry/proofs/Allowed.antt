@@ -14,7 +14,7 @@ use Rattle.po_entry.specs.Words.{keyword}
 use Rattle.po_entry.specs.ListRules.{transfers, clobber_in}
 use Rattle.po_entry.specs.Template.{arrow, template_in}
 use Rattle.po_entry.specs.Reading.{line_start, entry_in}
-use Rattle.po_entry.proofs.Told.{Tells, none_told}
+use Rattle.po_pattern.proofs.Told.{Tells, none_told}
 use Rattle.po_entry.proofs.Listed.{LeavesFp, none_listed}
 use Rattle.po_entry.proofs.Moves.{IsReadMove}
 use Rattle.po_entry.proofs.Kept.{Kept, transfers_kept, clobber_marked}

@@ -7,7 +7,7 @@ use Rattle.po_model.specs.declared.machine.PatTerm.TheVariants as pat
 use Rattle.po_model.specs.declared.machine.PatTerm.TheOpen.{PatTerm-F}
 use Rattle.po_model.specs.declared.machine.PatTerm.TheFolds.{ind-PatTerm, map-PatTerm}
 use Rattle.po_model.specs.Patterns.{PatTree, pattern_of, PatConst, Exactly, Operand, PatLeaf, InPatReg, AtSymbol}
-use Rattle.po_entry.proofs.Layers.{reg_tree, num_tree, const_tree, addr_tree, mem_tree, un_tree, bin_tree}
+use Rattle.po_pattern.proofs.Layers.{reg_tree, num_tree, const_tree, addr_tree, mem_tree, un_tree, bin_tree}
 
 abbrev pub back_const : PatConst → PatTerm
 back_const (Exactly n) = pat.Num n

@@ -17,9 +17,10 @@ use Rattle.po_pattern.specs.Rests.{Rest, Read}
 use Rattle.po_entry.specs.Words.{says, behind_word, keyword}
 use Rattle.po_entry.specs.Transfers.{transfer_in}
 use Rattle.po_entry.specs.ListRules.{may_follow, decided, with_next, transfers, sets_cc, clobber_may_stand, clobber_in}
-use Rattle.po_entry.proofs.Told.{Tells}
+use Rattle.po_pattern.proofs.Told.{Tells}
+use Rattle.po_pattern.proofs.Leaves.{Found}
 use Rattle.po_entry.proofs.Listed.{Listed, listed_on, moves_push}
-use Rattle.po_entry.proofs.Moves.{IsReadMove, MoveHas, Found, transfer_found}
+use Rattle.po_entry.proofs.Moves.{IsReadMove, MoveHas, transfer_found}
 
 -- what was read of a list
 pub record Kept (ms : List PatTransfer) (seen : Operands) : Type 0 where
@@ -37,8 +38,7 @@ places_push ms m = flat_map-append move_places ms (m ∷ []) ∙ ap (λ (x : Lis
     (append-nil (move_places m))
 
 kept_on : (before : List PatTransfer) (m : PatTransfer) (old seen : Operands) → may_follow before m ≡ true
-    → Kept before old → Found MoveHas (places_of (pat_moves_of before)) (Some m) seen → Some_kept (before ++ m ∷ [])
-    seen
+    → Kept before old → Found MoveHas old (Some m) seen → Some_kept (before ++ m ∷ []) seen
 kept_on before m old seen e k f = record {
   kept = record {
     listed = listed_on before m e k.listed;
@@ -46,14 +46,13 @@ kept_on before m old seen e k f = record {
         (All-push IsReadMove (pat_moves_of before) (pat_move_of m) k.each f.has.fine);
     told = subst (λ (qs : List Place). Tells seen qs) (ap (λ (x : List Place). places_of (pat_moves_of before) ++ x)
         f.has.is ∙ sym (places_push (pat_moves_of before) (pat_move_of m)) ∙ ap places_of (sym (moves_push before m)))
-        f.told;
+        (f.told (places_of (pat_moves_of before)) k.told);
   };
   some = simp length-append (omega arith);
 }
 
 decided_kept : (column : ℕ) (before ms : List PatTransfer) (m : Option PatTransfer) (old seen : Operands)
-    → decided column before m ≡ Ok ms → Kept before old → Found MoveHas (places_of (pat_moves_of before)) m seen
-    → Some_kept ms seen
+    → decided column before m ≡ Ok ms → Kept before old → Found MoveHas old m seen → Some_kept ms seen
 decided_kept column before ms None old seen e k f = absurd (not_ok e)
 decided_kept column before ms (Some m) old seen e k f = elim (chosen (may_follow before m) _ _ _ e) [
   | inl (h, is) ↦ subst (λ (xs : List PatTransfer). Some_kept xs seen) (ok_is is) (kept_on before m old seen h k f)
@@ -67,8 +66,7 @@ next_kept before r seen x e k =
     let p = bind_ok (transfer_in r seen) _ x e in
     let q = bind_ok (decided r.column before p.0.value) _ x p.2 in
     subst (λ (y : Read (List PatTransfer)). Some_kept y.value y.seen) (ok_is q.2)
-    (decided_kept r.column before q.0 p.0.value seen p.0.seen q.1 k
-    (transfer_found r seen p.0 (places_of (pat_moves_of before)) p.1 k.told))
+    (decided_kept r.column before q.0 p.0.value seen p.0.seen q.1 k (transfer_found r seen p.0 p.1))
 
 pub transfers_kept : (more : ℕ) (before : List PatTransfer) (r : Rest) (seen : Operands) (x : Read (List PatTransfer))
     → transfers more before r seen ≡ Ok x → Kept before seen → Some_kept x.value x.seen

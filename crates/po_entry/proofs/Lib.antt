@@ -1,11 +1,6 @@
 pub mod Rooms
 pub mod Bytes
 pub mod Listed
-pub mod Told
-pub mod Leaves
-pub mod Parts
-pub mod Layers
-pub mod Terms
 pub mod Moves
 pub mod Kept
 pub mod Pieces
@@ -20,3 +15,14 @@ pub mod AgainList
 pub mod AgainTemplate
 pub mod Again
 pub mod Plain
+pub mod WrittenParts
+pub mod WrittenTerms
+pub mod WrittenMoves
+pub mod Written
+pub mod ReadsParts
+pub mod ReadsTerms
+pub mod ReadsMoves
+pub mod ReadsLine
+pub mod KeptParts
+pub mod KeptTerms
+pub mod KeptLine

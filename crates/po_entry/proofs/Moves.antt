@@ -24,17 +24,10 @@ use Rattle.po_entry.specs.Words.{word_here, says, behind_word, ends_word, keywor
 use Rattle.po_entry.specs.Transfers.{register, term, address, label, symbol, pair_of, compared, set_in, cc_in}
 use Rattle.po_entry.specs.Transfers.{store_in, goto_in, relation_of, relation_with, relation, branch_in, if_in}
 use Rattle.po_entry.specs.Transfers.{call_in, begins_memory, setting_in, transfer_in}
-use Rattle.po_entry.proofs.Told.{Tells}
-use Rattle.po_entry.proofs.Leaves.{IsDigitAt, operand_came}
-use Rattle.po_entry.proofs.Parts.{IsRegAt, register_came, none_more}
-use Rattle.po_entry.proofs.Terms.{TermHas, term_came, address_came}
-
--- what was read of this form, with its places behind those before it
-pub record Found {T : Type 0} (Has : T → List Place → Type 0) (ps : List Place) (value : T) (seen : Operands) : Type 0
-  where
-    pub places : List Place
-    pub has : Has value places
-    pub told : Tells seen (ps ++ places)
+use Rattle.po_pattern.proofs.Told.{Tells}
+use Rattle.po_pattern.proofs.Leaves.{Found, found_of, IsDigitAt, operand_came}
+use Rattle.po_pattern.proofs.Parts.{IsRegAt, register_came, none_more}
+use Rattle.po_pattern.proofs.Terms.{TermHas, term_came, address_came}
 
 ended_same : {T : Type 0} (x y : Read T) → ended x ≡ Ok y → (x.value ≡ y.value) × (x.seen ≡ y.seen)
 unfolding ended
@@ -43,50 +36,45 @@ ended_same {T = T} x y e = elim (chosen (ends_word x.rest.bytes) _ _ _ e) [
   | inr (h, is) ↦ absurd (not_ok is)
 ]
 
-found_ended : {T : Type 0} (Has : T → List Place → Type 0) (ps : List Place) (x y : Read T) → ended x ≡ Ok y
-    → Found Has ps x.value x.seen → Found Has ps y.value y.seen
-found_ended {T = T} Has ps x y e h = let is = ended_same x y e in
-    subst (λ (v : T). Found Has ps v y.seen) is.0 (subst (λ (s : Operands). Found Has ps x.value s) is.1 h)
+found_ended : {T : Type 0} (Has : T → List Place → Type 0) (seen : Operands) (x y : Read T) → ended x ≡ Ok y
+    → Found Has seen x.value x.seen → Found Has seen y.value y.seen
+found_ended {T = T} Has seen x y e h = let is = ended_same x y e in
+    subst (λ (v : T). Found Has seen v y.seen) is.0 (subst (λ (s : Operands). Found Has seen x.value s) is.1 h)
 
-register_found : (r : Rest) (seen : Operands) (x : Read PatReg) (ps : List Place) → register r seen ≡ Ok x
-    → Tells seen ps → Found IsRegAt ps x.value x.seen
+register_found : (r : Rest) (seen : Operands) (x : Read PatReg) → register r seen ≡ Ok x
+    → Found IsRegAt seen x.value x.seen
 unfolding register
-register_found r seen x ps e told =
+register_found r seen x e =
     let p = bind_ok (parts.register r seen) _ x e in
-    let came = register_came r seen p.0 ps p.1 told in
-    found_ended IsRegAt ps p.0 x p.2 (record { places = came.places; has = came.has; told = came.told })
+    found_ended IsRegAt seen p.0 x p.2 (found_of (register_came r seen p.0 p.1))
 
-term_found : (r : Rest) (seen : Operands) (x : Read (Option PatTerm)) (ps : List Place) → term r seen ≡ Ok x
-    → Tells seen ps → Found TermHas ps x.value x.seen
+term_found : (r : Rest) (seen : Operands) (x : Read (Option PatTerm)) → term r seen ≡ Ok x
+    → Found TermHas seen x.value x.seen
 unfolding term
-term_found r seen x ps e told =
+term_found r seen x e =
     let p = bind_ok (terms.term r seen) _ x e in
-    let came = term_came r seen p.0 ps p.1 told in
-    found_ended TermHas ps p.0 x p.2 (record { places = came.0; has = came.1; told = came.2 })
+    found_ended TermHas seen p.0 x p.2 (term_came r seen p.0 p.1)
 
-address_found : (r : Rest) (seen : Operands) (x : Read (Option PatTerm)) (ps : List Place) → address r seen ≡ Ok x
-    → Tells seen ps → Found TermHas ps x.value x.seen
+address_found : (r : Rest) (seen : Operands) (x : Read (Option PatTerm)) → address r seen ≡ Ok x
+    → Found TermHas seen x.value x.seen
 unfolding address
-address_found r seen x ps e told =
+address_found r seen x e =
     let p = bind_ok (terms.address r seen) _ x e in
-    let came = address_came r seen p.0 ps p.1 told in
-    found_ended TermHas ps p.0 x p.2 (record { places = came.0; has = came.1; told = came.2 })
+    found_ended TermHas seen p.0 x p.2 (address_came r seen p.0 p.1)
 
-label_found : (r : Rest) (seen : Operands) (x : Read ℕ) (ps : List Place) → label r seen ≡ Ok x → Tells seen ps
-    → Found (IsDigitAt Label) ps x.value x.seen
+label_found : (r : Rest) (seen : Operands) (x : Read ℕ) → label r seen ≡ Ok x
+    → Found (IsDigitAt Label) seen x.value x.seen
 unfolding label parts.label
-label_found r seen x ps e told =
+label_found r seen x e =
     let p = bind_ok (parts.operand Label r seen) _ x e in
-    let came = operand_came Label r seen p.0 ps p.1 told in
-    found_ended (IsDigitAt Label) ps p.0 x p.2 (record { places = came.places; has = came.has; told = came.told })
+    found_ended (IsDigitAt Label) seen p.0 x p.2 (found_of (operand_came Label r seen p.0 p.1))
 
-symbol_found : (r : Rest) (seen : Operands) (x : Read ℕ) (ps : List Place) → symbol r seen ≡ Ok x → Tells seen ps
-    → Found (IsDigitAt Symbol) ps x.value x.seen
+symbol_found : (r : Rest) (seen : Operands) (x : Read ℕ) → symbol r seen ≡ Ok x
+    → Found (IsDigitAt Symbol) seen x.value x.seen
 unfolding symbol parts.symbol
-symbol_found r seen x ps e told =
+symbol_found r seen x e =
     let p = bind_ok (parts.operand Symbol r seen) _ x e in
-    let came = operand_came Symbol r seen p.0 ps p.1 told in
-    found_ended (IsDigitAt Symbol) ps p.0 x p.2 (record { places = came.places; has = came.has; told = came.told })
+    found_ended (IsDigitAt Symbol) seen p.0 x p.2 (found_of (operand_came Symbol r seen p.0 p.1))
 
 -- two terms
 
@@ -110,27 +98,26 @@ pair_has (Some t) (Some u) cs bs h g = record {
 
 -- two things, one behind the other
 both_found : {S T U : Type 0} (HasS : S → List Place → Type 0) (HasT : T → List Place → Type 0)
-    (HasU : U → List Place → Type 0) (ps : List Place) (s : S) (t : T) (u : U) (before after : Operands)
-    → ((cs bs : List Place) → HasS s cs → HasT t bs → HasU u (cs ++ bs)) → (f : Found HasS ps s before)
-    → Found HasT (ps ++ f.places) t after → Found HasU ps u after
-both_found HasS HasT HasU ps s t u before after join f g = record {
+    (HasU : U → List Place → Type 0) (seen before after : Operands) (s : S) (t : T) (u : U)
+    → ((cs bs : List Place) → HasS s cs → HasT t bs → HasU u (cs ++ bs)) → Found HasS seen s before
+    → Found HasT before t after → Found HasU seen u after
+both_found HasS HasT HasU seen before after s t u join f g = record {
   places = f.places ++ g.places;
   has = join f.places g.places f.has g.has;
-  told = subst (λ (qs : List Place). Tells after qs) (append_assoc ps f.places g.places) g.told;
+  told = λ ps h. subst (λ (qs : List Place). Tells after qs) (append_assoc ps f.places g.places)
+      (g.told (ps ++ f.places) (f.told ps h));
 }
 
-compared_found : (r : Rest) (seen : Operands) (x : Read (Option Pair)) (ps : List Place) → compared r seen ≡ Ok x
-    → Tells seen ps → Found PairHas ps x.value x.seen
+compared_found : (r : Rest) (seen : Operands) (x : Read (Option Pair)) → compared r seen ≡ Ok x
+    → Found PairHas seen x.value x.seen
 unfolding compared
-compared_found r seen x ps e told =
+compared_found r seen x e =
     let p = bind_ok (term r seen) _ x e in
     let q = bind_ok (keyword (codes "?") p.0.rest) _ x p.2 in
     let s = bind_ok (term q.0 p.0.seen) _ x q.2 in
-    let left = term_found r seen p.0 ps p.1 told in
-    let right = term_found q.0 p.0.seen s.0 (ps ++ left.places) s.1 left.told in
-    subst (λ (y : Read (Option Pair)). Found PairHas ps y.value y.seen) (ok_is s.2)
-    (both_found TermHas TermHas PairHas ps p.0.value s.0.value (pair_of p.0.value s.0.value) p.0.seen s.0.seen
-    (pair_has p.0.value s.0.value) left right)
+    subst (λ (y : Read (Option Pair)). Found PairHas seen y.value y.seen) (ok_is s.2)
+    (both_found TermHas TermHas PairHas seen p.0.seen s.0.seen p.0.value s.0.value (pair_of p.0.value s.0.value)
+    (pair_has p.0.value s.0.value) (term_found r seen p.0 p.1) (term_found q.0 p.0.seen s.0 s.1))
 
 -- a transfer, but for what the list decides of it
 
@@ -160,24 +147,22 @@ set_has to (Some t) cs bs h g = record {
   fine = (h.fine, g.fine);
 }
 
-set_found : (r : Rest) (seen : Operands) (x : Read (Option PatTransfer)) (ps : List Place) → set_in r seen ≡ Ok x
-    → Tells seen ps → Found MoveHas ps x.value x.seen
+set_found : (r : Rest) (seen : Operands) (x : Read (Option PatTransfer)) → set_in r seen ≡ Ok x
+    → Found MoveHas seen x.value x.seen
 unfolding set_in
-set_found r seen x ps e told =
+set_found r seen x e =
     let p = bind_ok (register r seen) _ x e in
     let q = bind_ok (keyword (codes ":=") p.0.rest) _ x p.2 in
     let s = bind_ok (term q.0 p.0.seen) _ x q.2 in
-    let to = register_found r seen p.0 ps p.1 told in
-    let from = term_found q.0 p.0.seen s.0 (ps ++ to.places) s.1 to.told in
-    subst (λ (y : Read (Option PatTransfer)). Found MoveHas ps y.value y.seen) (ok_is s.2)
-    (both_found IsRegAt TermHas MoveHas ps p.0.value s.0.value (option_map (transfer.Set p.0.value) s.0.value)
-    p.0.seen s.0.seen (set_has p.0.value s.0.value) to from)
+    subst (λ (y : Read (Option PatTransfer)). Found MoveHas seen y.value y.seen) (ok_is s.2)
+    (both_found IsRegAt TermHas MoveHas seen p.0.seen s.0.seen p.0.value s.0.value
+    (option_map (transfer.Set p.0.value) s.0.value) (set_has p.0.value s.0.value) (register_found r seen p.0 p.1)
+    (term_found q.0 p.0.seen s.0 s.1))
 
 -- as something else of the same places
-found_as : {S T : Type 0} (HasS : S → List Place → Type 0) (HasT : T → List Place → Type 0) (ps : List Place) (s : S)
-    (t : T) (seen : Operands) → ((qs : List Place) → HasS s qs → HasT t qs) → Found HasS ps s seen
-    → Found HasT ps t seen
-found_as HasS HasT ps s t seen make f = record { places = f.places; has = make f.places f.has; told = f.told }
+found_as : {S T : Type 0} (HasS : S → List Place → Type 0) (HasT : T → List Place → Type 0) (seen after : Operands)
+    (s : S) (t : T) → ((qs : List Place) → HasS s qs → HasT t qs) → Found HasS seen s after → Found HasT seen t after
+found_as HasS HasT seen after s t make f = record { places = f.places; has = make f.places f.has; told = f.told }
 
 cc_has : (p : Option Pair) (qs : List Place) → PairHas p qs → MoveHas (option_map (λ p. transfer.Cc p.left p.right) p)
     qs
@@ -189,41 +174,39 @@ store_has : (p : Option Pair) (qs : List Place) → PairHas p qs
 store_has None qs h = tt
 store_has (Some p) qs h = record { is = h.is; fine = (h.left, h.right) }
 
-cc_found : (r : Rest) (seen : Operands) (x : Read (Option PatTransfer)) (ps : List Place) → cc_in r seen ≡ Ok x
-    → Tells seen ps → Found MoveHas ps x.value x.seen
+cc_found : (r : Rest) (seen : Operands) (x : Read (Option PatTransfer)) → cc_in r seen ≡ Ok x
+    → Found MoveHas seen x.value x.seen
 unfolding cc_in
-cc_found r seen x ps e told =
+cc_found r seen x e =
     let p = bind_ok (keyword (codes "cc") r) _ x e in
     let q = bind_ok (keyword (codes ":=") p.0) _ x p.2 in
     let s = bind_ok (compared q.0 seen) _ x q.2 in
-    subst (λ (y : Read (Option PatTransfer)). Found MoveHas ps y.value y.seen) (ok_is s.2)
-    (found_as PairHas MoveHas ps s.0.value (option_map (λ p. transfer.Cc p.left p.right) s.0.value) s.0.seen
-    (cc_has s.0.value) (compared_found q.0 seen s.0 ps s.1 told))
+    subst (λ (y : Read (Option PatTransfer)). Found MoveHas seen y.value y.seen) (ok_is s.2)
+    (found_as PairHas MoveHas seen s.0.seen s.0.value (option_map (λ p. transfer.Cc p.left p.right) s.0.value)
+    (cc_has s.0.value) (compared_found q.0 seen s.0 s.1))
 
-store_found : (r : Rest) (seen : Operands) (x : Read (Option PatTransfer)) (ps : List Place) → store_in r seen ≡ Ok x
-    → Tells seen ps → Found MoveHas ps x.value x.seen
+store_found : (r : Rest) (seen : Operands) (x : Read (Option PatTransfer)) → store_in r seen ≡ Ok x
+    → Found MoveHas seen x.value x.seen
 unfolding store_in
-store_found r seen x ps e told =
+store_found r seen x e =
     let p = bind_ok (address r seen) _ x e in
     let q = bind_ok (keyword (codes ":=") p.0.rest) _ x p.2 in
     let s = bind_ok (term q.0 p.0.seen) _ x q.2 in
-    let left = address_found r seen p.0 ps p.1 told in
-    let right = term_found q.0 p.0.seen s.0 (ps ++ left.places) s.1 left.told in
-    let two = both_found TermHas TermHas PairHas ps p.0.value s.0.value (pair_of p.0.value s.0.value) p.0.seen
-    s.0.seen (pair_has p.0.value s.0.value) left right in
-    subst (λ (y : Read (Option PatTransfer)). Found MoveHas ps y.value y.seen) (ok_is s.2)
-    (found_as PairHas MoveHas ps (pair_of p.0.value s.0.value) (option_map (λ p. transfer.Store p.left p.right)
-    (pair_of p.0.value s.0.value)) s.0.seen (store_has (pair_of p.0.value s.0.value)) two)
+    let two = pair_of p.0.value s.0.value in
+    subst (λ (y : Read (Option PatTransfer)). Found MoveHas seen y.value y.seen) (ok_is s.2)
+    (found_as PairHas MoveHas seen s.0.seen two (option_map (λ p. transfer.Store p.left p.right) two) (store_has two)
+    (both_found TermHas TermHas PairHas seen p.0.seen s.0.seen p.0.value s.0.value two
+    (pair_has p.0.value s.0.value) (address_found r seen p.0 p.1) (term_found q.0 p.0.seen s.0 s.1)))
 
-goto_found : (r : Rest) (seen : Operands) (x : Read ℕ) (ps : List Place) → goto_in r seen ≡ Ok x → Tells seen ps
-    → Found (IsDigitAt Label) ps x.value x.seen
+goto_found : (r : Rest) (seen : Operands) (x : Read ℕ) → goto_in r seen ≡ Ok x
+    → Found (IsDigitAt Label) seen x.value x.seen
 unfolding goto_in
-goto_found r seen x ps e told = let p = bind_ok (keyword (codes "goto") r) _ x e in label_found p.0 seen x ps p.2 told
+goto_found r seen x e = let p = bind_ok (keyword (codes "goto") r) _ x e in label_found p.0 seen x p.2
 
-call_found : (r : Rest) (seen : Operands) (x : Read ℕ) (ps : List Place) → call_in r seen ≡ Ok x → Tells seen ps
-    → Found (IsDigitAt Symbol) ps x.value x.seen
+call_found : (r : Rest) (seen : Operands) (x : Read ℕ) → call_in r seen ≡ Ok x
+    → Found (IsDigitAt Symbol) seen x.value x.seen
 unfolding call_in
-call_found r seen x ps e told = let p = bind_ok (keyword (codes "call") r) _ x e in symbol_found p.0 seen x ps p.2 told
+call_found r seen x e = let p = bind_ok (keyword (codes "call") r) _ x e in symbol_found p.0 seen x p.2
 
 relation_same : (r : Rest) (seen : Operands) (x : Read Rel) (found : Option Rel) → relation_with r seen found ≡ Ok x
     → x.seen ≡ seen
@@ -249,46 +232,46 @@ branch_has (Some (condition.Two t u)) rel k cs bs h g = record {
   fine = (h.left, h.right, g.small);
 }
 
-branch_found : (c : Option PatCond) (r : Rest) (seen : Operands) (x : Read (Option PatTransfer)) (ps : List Place)
-    → branch_in c r seen ≡ Ok x → Found CondHas ps c seen → Found MoveHas ps x.value x.seen
+branch_found : (c : Option PatCond) (r : Rest) (start seen : Operands) (x : Read (Option PatTransfer))
+    → branch_in c r seen ≡ Ok x → Found CondHas start c seen → Found MoveHas start x.value x.seen
 unfolding branch_in relation
-branch_found c r seen x ps e f =
+branch_found c r start seen x e f =
     let p = bind_ok (relation r seen) _ x e in
     let q = bind_ok (goto_in p.0.rest p.0.seen) _ x p.2 in
     let same = relation_same r seen p.0 (relation_of (word_here r)) p.1 in
-    let to = goto_found p.0.rest p.0.seen q.0 (ps ++ f.places) q.1 (subst (λ (s : Operands). Tells s (ps ++ f.places))
-    (sym same) f.told) in
-    subst (λ (y : Read (Option PatTransfer)). Found MoveHas ps y.value y.seen) (ok_is q.2)
-    (both_found CondHas (IsDigitAt Label) MoveHas ps c q.0.value (option_map (λ c. transfer.If c p.0.value q.0.value)
-    c) seen q.0.seen (branch_has c p.0.value q.0.value) f to)
+    let to = subst (λ (s : Operands). Found (IsDigitAt Label) s q.0.value q.0.seen) same
+    (goto_found p.0.rest p.0.seen q.0 q.1) in
+    subst (λ (y : Read (Option PatTransfer)). Found MoveHas start y.value y.seen) (ok_is q.2)
+    (both_found CondHas (IsDigitAt Label) MoveHas start seen q.0.seen c q.0.value
+    (option_map (λ c. transfer.If c p.0.value q.0.value) c) (branch_has c p.0.value q.0.value) f to)
 
 two_has : (p : Option Pair) (qs : List Place) → PairHas p qs
     → CondHas (option_map (λ p. condition.Two p.left p.right) p) qs
 two_has None qs h = tt
 two_has (Some p) qs h = h
 
-if_found : (r : Rest) (seen : Operands) (x : Read (Option PatTransfer)) (ps : List Place) → if_in r seen ≡ Ok x
-    → Tells seen ps → Found MoveHas ps x.value x.seen
+if_found : (r : Rest) (seen : Operands) (x : Read (Option PatTransfer)) → if_in r seen ≡ Ok x
+    → Found MoveHas seen x.value x.seen
 unfolding if_in
-if_found r seen x ps e told =
+if_found r seen x e =
     let p = bind_ok (keyword (codes "if") r) _ x e in
     elim (chosen (says (codes "cc") p.0) _ _ _ p.2) [
-      | inl (h, is) ↦ branch_found (Some condition.Cc) (behind_word p.0) seen x ps is
-          (record { places = []; has = refl; told = none_more seen ps told })
+      | inl (h, is) ↦ branch_found (Some condition.Cc) (behind_word p.0) seen seen x is
+          (record { places = []; has = refl; told = none_more seen })
       | inr (h, is) ↦ (let q = bind_ok (compared p.0 seen) _ x is in
-          branch_found (option_map (λ p. condition.Two p.left p.right) q.0.value) q.0.rest q.0.seen x ps q.2
-          (found_as PairHas CondHas ps q.0.value (option_map (λ p. condition.Two p.left p.right) q.0.value) q.0.seen
-          (two_has q.0.value) (compared_found p.0 seen q.0 ps q.1 told)))
+          branch_found (option_map (λ p. condition.Two p.left p.right) q.0.value) q.0.rest seen q.0.seen x q.2
+          (found_as PairHas CondHas seen q.0.seen q.0.value (option_map (λ p. condition.Two p.left p.right) q.0.value)
+          (two_has q.0.value) (compared_found p.0 seen q.0 q.1)))
     ]
 
-setting_found : (r : Rest) (seen : Operands) (x : Read (Option PatTransfer)) (ps : List Place) → setting_in r seen
-    ≡ Ok x → Tells seen ps → Found MoveHas ps x.value x.seen
+setting_found : (r : Rest) (seen : Operands) (x : Read (Option PatTransfer)) → setting_in r seen ≡ Ok x
+    → Found MoveHas seen x.value x.seen
 unfolding setting_in
-setting_found r seen x ps e told = elim (chosen (says (codes "cc") r) _ _ _ e) [
-  | inl (h, is) ↦ cc_found r seen x ps is told
+setting_found r seen x e = elim (chosen (says (codes "cc") r) _ _ _ e) [
+  | inl (h, is) ↦ cc_found r seen x is
   | inr (h, is) ↦ elim (chosen (begins_memory r) _ _ _ is) [
-    | inl (g, at) ↦ store_found r seen x ps at told
-    | inr (g, at) ↦ set_found r seen x ps at told
+    | inl (g, at) ↦ store_found r seen x at
+    | inr (g, at) ↦ set_found r seen x at
   ]
 ]
 
@@ -298,25 +281,25 @@ goto_has k qs h = record { is = h.is; fine = h.small }
 call_has : (k : ℕ) (qs : List Place) → IsDigitAt Symbol k qs → MoveHas (Some (transfer.Call k)) qs
 call_has k qs h = record { is = h.is; fine = h.small }
 
-pub transfer_found : (r : Rest) (seen : Operands) (x : Read (Option PatTransfer)) (ps : List Place)
-    → transfer_in r seen ≡ Ok x → Tells seen ps → Found MoveHas ps x.value x.seen
+pub transfer_found : (r : Rest) (seen : Operands) (x : Read (Option PatTransfer)) → transfer_in r seen ≡ Ok x
+    → Found MoveHas seen x.value x.seen
 unfolding transfer_in
-transfer_found r seen x ps e told = elim (chosen (says (codes "goto") r) _ _ _ e) [
+transfer_found r seen x e = elim (chosen (says (codes "goto") r) _ _ _ e) [
   | inl (h, is) ↦ (let p = bind_ok (goto_in r seen) _ x is in
-      subst (λ (y : Read (Option PatTransfer)). Found MoveHas ps y.value y.seen) (ok_is p.2)
-      (found_as (IsDigitAt Label) MoveHas ps p.0.value (Some (transfer.Goto p.0.value)) p.0.seen (goto_has p.0.value)
-      (goto_found r seen p.0 ps p.1 told)))
+      subst (λ (y : Read (Option PatTransfer)). Found MoveHas seen y.value y.seen) (ok_is p.2)
+      (found_as (IsDigitAt Label) MoveHas seen p.0.seen p.0.value (Some (transfer.Goto p.0.value)) (goto_has p.0.value)
+      (goto_found r seen p.0 p.1)))
   | inr (h, is) ↦ elim (chosen (says (codes "call") r) _ _ _ is) [
     | inl (g, at) ↦ (let p = bind_ok (call_in r seen) _ x at in
-        subst (λ (y : Read (Option PatTransfer)). Found MoveHas ps y.value y.seen) (ok_is p.2)
-        (found_as (IsDigitAt Symbol) MoveHas ps p.0.value (Some (transfer.Call p.0.value)) p.0.seen
-        (call_has p.0.value) (call_found r seen p.0 ps p.1 told)))
+        subst (λ (y : Read (Option PatTransfer)). Found MoveHas seen y.value y.seen) (ok_is p.2)
+        (found_as (IsDigitAt Symbol) MoveHas seen p.0.seen p.0.value (Some (transfer.Call p.0.value))
+        (call_has p.0.value) (call_found r seen p.0 p.1)))
     | inr (g, at) ↦ elim (chosen (says (codes "ret") r) _ _ _ at) [
-      | inl (f, to) ↦ subst (λ (y : Read (Option PatTransfer)). Found MoveHas ps y.value y.seen) (ok_is to)
-          (record { places = []; has = record { is = refl; fine = tt }; told = none_more seen ps told })
+      | inl (f, to) ↦ subst (λ (y : Read (Option PatTransfer)). Found MoveHas seen y.value y.seen) (ok_is to)
+          (record { places = []; has = record { is = refl; fine = tt }; told = none_more seen })
       | inr (f, to) ↦ elim (chosen (says (codes "if") r) _ _ _ to) [
-        | inl (d, by) ↦ if_found r seen x ps by told
-        | inr (d, by) ↦ setting_found r seen x ps by told
+        | inl (d, by) ↦ if_found r seen x by
+        | inr (d, by) ↦ setting_found r seen x by
       ]
     ]
   ]

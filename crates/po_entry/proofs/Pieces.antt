@@ -18,7 +18,7 @@ use Rattle.po_entry.specs.declared.begun.Mark.{Mark}
 use Rattle.po_entry.specs.EntryText.{is_mark}
 use Rattle.po_entry.specs.Template.{kind_by, piece_by, is_seen, marked, plain, with_piece, step_with, template_step}
 use Rattle.po_entry.specs.Template.{template_from, nothing_yet, whole_with, template_in}
-use Rattle.po_entry.proofs.Told.{Tells, sort_of, same_is}
+use Rattle.po_pattern.proofs.Told.{Tells, sort_of, same_is}
 
 or_cases : (x y : Bool) → (x || y) ≡ true → (x ≡ true) ⊎ (y ≡ true)
 or_cases true y e = inl refl

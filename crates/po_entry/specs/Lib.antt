@@ -4,3 +4,5 @@ pub mod Transfers
 pub mod ListRules
 pub mod Template
 pub mod Reading
+pub mod Writing
+pub mod Kept

@@ -2,13 +2,13 @@
 
 ghost use Rattle.std.specs.Prelude.{◌≡◌, ◌++◌, ◌∷◌, []};
 ghost use Rattle.std.specs.List.{list_all, list_any};
-ghost use Rattle.po_lines.specs.Faults.{Gives};
+ghost use Rattle.po_lines.specs.Faults.{Gives, Tells};
 ghost use Rattle.po_pattern.specs.Rests.{rest_of, read_of};
 ghost use Rattle.po_entry.specs.ListRules as rules;
 
 use crate::transfer::transfer;
 use crate::words::{behind_word, keyword, says};
-use po_lines::{LineError, fault_at};
+use po_lines::{LineError, LineFault, fault_at};
 use po_model::{PatReg, PatTransfer};
 use po_pattern::{Cursor, Operands, Parsed};
 use po_term::Reg;
@@ -160,11 +160,11 @@ fn any_sets_cc(pattern: &[PatTransfer]) -> bool
 }
 
 /// `clobber cc` behind these transfers, at this column, is NeverMatches where one of them sets `cc`.
-fn clobber_may_stand(column: u32, pattern: &[PatTransfer]) -> Result<(), LineError>
-    ensures { Gives (λ _. tt) result (rules.clobber_may_stand column pattern.now) }
+fn clobber_may_stand(column: u32, pattern: &[PatTransfer]) -> Result<(), LineFault>
+    ensures { Tells (λ _. tt) result (rules.clobber_may_stand column pattern.now) }
 {
     if any_sets_cc(pattern) {
-        return Err(fault_at(column, Kind::NeverMatches));
+        return Err(LineFault::at(column, Kind::NeverMatches));
     }
     Ok(())
 }
@@ -175,8 +175,8 @@ pub fn clobber<'a>(
     pattern: &[PatTransfer],
     at: Cursor<'a>,
     seen: Operands,
-) -> Result<Parsed<'a, bool>, LineError>
-    ensures { Gives read_of result (rules.clobber_in pattern.now (rest_of at.entry) seen) }
+) -> Result<Parsed<'a, bool>, LineFault>
+    ensures { Tells read_of result (rules.clobber_in pattern.now (rest_of at.entry) seen) }
 {
     if !says(at, b"clobber") {
         return Ok(Parsed {

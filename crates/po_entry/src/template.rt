@@ -2,29 +2,27 @@
 //! for the byte behind it, which makes it a character or an operand.
 
 ghost use Rattle.std.specs.Prelude.{◌≡◌, ◌+◌, ◌≤◌, length};
-ghost use Rattle.po_name.specs.Names.{is_digit as is_digit_byte};
-ghost use Rattle.po_lines.specs.Faults.{Gives};
+ghost use Rattle.po_lines.specs.Faults.{Gives, Tells};
 ghost use Rattle.po_pattern.specs.Rests.{rest_of};
-ghost use Rattle.po_pattern.specs.Seen as seen;
 ghost use Rattle.po_entry.specs.EntryText.{is_mark as is_mark_byte};
 ghost use Rattle.po_entry.specs.Template as template;
 
 use crate::begun::{Begun, Mark};
 use crate::words::{after_word, says};
-use po_lines::{LineError, fault_at};
+use po_lines::{LineError, LineFault, fault_at};
 use po_model::Piece;
-use po_pattern::{Cursor, OperandKind, Operands, mark};
+use po_pattern::{Cursor, OperandKind, Operands, is_digit_byte, mark, same_kind};
 use po_text::Kind;
 use sqlite_items::Items;
 use std::alloc::Global;
 
 /// `=>` and exactly one space; the place where the template begins.
 #[tactic(auto, unfolding(crate::specs::Template::arrow))]
-pub fn arrow(at: Cursor) -> Result<Cursor, LineError>
-    ensures { Gives rest_of result (template.arrow (rest_of at.entry)) }
+pub fn arrow(at: Cursor) -> Result<Cursor, LineFault>
+    ensures { Tells rest_of result (template.arrow (rest_of at.entry)) }
 {
     if !says(at, b"=>") {
-        return Err(fault_at(at.column, Kind::Word));
+        return Err(LineFault::at(at.column, Kind::Word));
     }
     mark(after_word(at), b' ')
 }
@@ -69,40 +67,28 @@ fn is_seen(kind: OperandKind, known: Option<OperandKind>) -> bool
     }
 }
 
-fn same_kind(kind: OperandKind, other: OperandKind) -> bool
-    ensures { result ≡ seen.same_kind kind other }
-{
-    kind == other
-}
-
-fn is_digit(byte: u8) -> bool
-    ensures { result ≡ is_digit_byte byte }
-{
-    byte.is_ascii_digit()
-}
-
 /// A mark and the byte behind it.
-fn marked(operands: &Operands, mark: Mark, byte: u8) -> Result<Piece, LineError>
-    ensures { Gives (λ p. p) result (template.marked operands.now mark byte) }
+fn marked(operands: &Operands, mark: Mark, byte: u8) -> Result<Piece, LineFault>
+    ensures { Tells (λ p. p) result (template.marked operands.now mark byte) }
 {
     if byte == mark.byte {
         return Ok(Piece::Byte(byte));
     }
     let kind = kind_by(mark.byte);
-    if is_digit(byte) && is_seen(kind, operands.kinds[(byte - b'0') as usize]) {
+    if is_digit_byte(byte) && is_seen(kind, operands.kinds[(byte - b'0') as usize]) {
         return Ok(piece_by(kind, byte - b'0'));
     }
-    Err(fault_at(mark.column, Kind::ListForm))
+    Err(LineFault::at(mark.column, Kind::ListForm))
 }
 
 /// A character that stands for itself.
-fn plain(column: u32, byte: u8) -> Result<Piece, LineError>
-    ensures { Gives (λ p. p) result (template.plain column byte) }
+fn plain(column: u32, byte: u8) -> Result<Piece, LineFault>
+    ensures { Tells (λ p. p) result (template.plain column byte) }
 {
     if byte >= b' ' && byte <= b'~' {
         Ok(Piece::Byte(byte))
     } else {
-        Err(fault_at(column, Kind::Word))
+        Err(LineFault::at(column, Kind::Word))
     }
 }
 

@@ -2,7 +2,7 @@
 
 ghost use Rattle.std.specs.Prelude.{◌≡◌};
 ghost use Rattle.std.specs.Option.{option_map};
-ghost use Rattle.po_lines.specs.Faults.{Gives};
+ghost use Rattle.po_lines.specs.Faults.{Gives, Tells};
 ghost use Rattle.po_model.specs.declared.machine.PatCond.TheVariants as cond;
 ghost use Rattle.po_model.specs.declared.machine.PatTransfer.TheVariants as transfer;
 ghost use Rattle.po_pattern.specs.Rests.{rest_of, read_of};
@@ -10,7 +10,7 @@ ghost use Rattle.po_entry.specs.Transfers as transfers;
 
 use crate::pair::Pair;
 use crate::words::{behind_word, ended, keyword, says, word_here};
-use po_lines::{LineError, fault_at, same_text};
+use po_lines::{LineError, LineFault, same_text};
 use po_model::{PatCond, PatReg, PatTerm, PatTransfer};
 use po_pattern::{Cursor, Operands, Parsed, name_length};
 use po_text::Kind;
@@ -19,8 +19,8 @@ use std::alloc::Global;
 
 /// A register, which is a word of its own.
 #[tactic(auto, unfolding(crate::specs::Transfers::register))]
-fn register<'a>(at: Cursor<'a>, seen: Operands) -> Result<Parsed<'a, PatReg>, LineError>
-    ensures { Gives read_of result (transfers.register (rest_of at.entry) seen) }
+fn register<'a>(at: Cursor<'a>, seen: Operands) -> Result<Parsed<'a, PatReg>, LineFault>
+    ensures { Tells read_of result (transfers.register (rest_of at.entry) seen) }
 {
     let register = po_pattern::register(at, seen)?;
     ended(register)
@@ -36,7 +36,7 @@ fn term<'a>(
     ensures { Gives read_of result (transfers.term (rest_of at.entry) seen) }
 {
     let term = po_pattern::term(alloc, at, seen)?;
-    ended(term)
+    Ok(ended(term)?)
 }
 
 /// The address in `M[t]`, which is a word of its own.
@@ -49,13 +49,13 @@ fn address<'a>(
     ensures { Gives read_of result (transfers.address (rest_of at.entry) seen) }
 {
     let address = po_pattern::address(alloc, at, seen)?;
-    ended(address)
+    Ok(ended(address)?)
 }
 
 /// A label, which is a word of its own.
 #[tactic(auto, unfolding(crate::specs::Transfers::label))]
-fn label<'a>(at: Cursor<'a>, seen: Operands) -> Result<Parsed<'a, u8>, LineError>
-    ensures { Gives read_of result (transfers.label (rest_of at.entry) seen) }
+fn label<'a>(at: Cursor<'a>, seen: Operands) -> Result<Parsed<'a, u8>, LineFault>
+    ensures { Tells read_of result (transfers.label (rest_of at.entry) seen) }
 {
     let label = po_pattern::label(at, seen)?;
     ended(label)
@@ -63,8 +63,8 @@ fn label<'a>(at: Cursor<'a>, seen: Operands) -> Result<Parsed<'a, u8>, LineError
 
 /// A symbol, which is a word of its own.
 #[tactic(auto, unfolding(crate::specs::Transfers::symbol))]
-fn symbol<'a>(at: Cursor<'a>, seen: Operands) -> Result<Parsed<'a, u8>, LineError>
-    ensures { Gives read_of result (transfers.symbol (rest_of at.entry) seen) }
+fn symbol<'a>(at: Cursor<'a>, seen: Operands) -> Result<Parsed<'a, u8>, LineFault>
+    ensures { Tells read_of result (transfers.symbol (rest_of at.entry) seen) }
 {
     let symbol = po_pattern::symbol(at, seen)?;
     ended(symbol)
@@ -179,8 +179,8 @@ fn store<'a>(
 
 /// `goto @k`
 #[tactic(auto, unfolding(crate::specs::Transfers::goto_in))]
-fn goto<'a>(at: Cursor<'a>, seen: Operands) -> Result<Parsed<'a, u8>, LineError>
-    ensures { Gives read_of result (transfers.goto_in (rest_of at.entry) seen) }
+fn goto<'a>(at: Cursor<'a>, seen: Operands) -> Result<Parsed<'a, u8>, LineFault>
+    ensures { Tells read_of result (transfers.goto_in (rest_of at.entry) seen) }
 {
     let target = keyword(at, b"goto")?;
     label(target, seen)
@@ -205,11 +205,11 @@ fn relation_of(name: &[u8]) -> Option<Rel>
 
 /// A relation.
 #[tactic(auto, unfolding(crate::specs::Transfers::relation))]
-fn relation<'a>(at: Cursor<'a>, seen: Operands) -> Result<Parsed<'a, Rel>, LineError>
-    ensures { Gives read_of result (transfers.relation (rest_of at.entry) seen) }
+fn relation<'a>(at: Cursor<'a>, seen: Operands) -> Result<Parsed<'a, Rel>, LineFault>
+    ensures { Tells read_of result (transfers.relation (rest_of at.entry) seen) }
 {
     match relation_of(word_here(at)) {
-        None => Err(fault_at(at.column, Kind::Word)),
+        None => Err(LineFault::at(at.column, Kind::Word)),
         Some(relation) => Ok(Parsed {
             value: relation,
             rest: behind_word(at),
@@ -230,8 +230,8 @@ fn branch<'a>(
     compares: Option<PatCond>,
     at: Cursor<'a>,
     seen: Operands,
-) -> Result<Parsed<'a, Option<PatTransfer>>, LineError>
-    ensures { Gives read_of result (transfers.branch_in compares (rest_of at.entry) seen) }
+) -> Result<Parsed<'a, Option<PatTransfer>>, LineFault>
+    ensures { Tells read_of result (transfers.branch_in compares (rest_of at.entry) seen) }
 {
     let relation = relation(at, seen)?;
     let label = goto(relation.rest, relation.seen)?;
@@ -259,16 +259,16 @@ fn conditional<'a>(
 {
     let what = keyword(at, b"if")?;
     if says(what, b"cc") {
-        return branch(Some(PatCond::Cc), behind_word(what), seen);
+        return Ok(branch(Some(PatCond::Cc), behind_word(what), seen)?);
     }
     let pair = compared(alloc, what, seen)?;
-    branch(two_of(pair.value), pair.rest, pair.seen)
+    Ok(branch(two_of(pair.value), pair.rest, pair.seen)?)
 }
 
 /// `call &k`
 #[tactic(auto, unfolding(crate::specs::Transfers::call_in))]
-fn call<'a>(at: Cursor<'a>, seen: Operands) -> Result<Parsed<'a, u8>, LineError>
-    ensures { Gives read_of result (transfers.call_in (rest_of at.entry) seen) }
+fn call<'a>(at: Cursor<'a>, seen: Operands) -> Result<Parsed<'a, u8>, LineFault>
+    ensures { Tells read_of result (transfers.call_in (rest_of at.entry) seen) }
 {
     let target = keyword(at, b"call")?;
     symbol(target, seen)

@@ -2,11 +2,11 @@
 
 ghost use Rattle.std.specs.Prelude.{◌≡◌, ◌≤◌, length};
 ghost use Rattle.std.specs.List.{prefix_len};
-ghost use Rattle.po_lines.specs.Faults.{Gives};
+ghost use Rattle.po_lines.specs.Faults.{Tells};
 ghost use Rattle.po_pattern.specs.Rests.{rest_of, read_of};
 ghost use Rattle.po_entry.specs.Words as words;
 
-use po_lines::{LineError, fault_at, same_text};
+use po_lines::{LineFault, same_text};
 use po_pattern::{Cursor, Parsed, behind, skip_blanks};
 use po_text::Kind;
 
@@ -57,13 +57,13 @@ pub fn behind_word(at: Cursor) -> Cursor
 
 /// This keyword has to stand here; the place of what follows it. Any other word is Word at its first byte.
 #[tactic(auto, unfolding(crate::specs::Words::keyword))]
-pub fn keyword<'a>(at: Cursor<'a>, text: &[u8]) -> Result<Cursor<'a>, LineError>
-    ensures { Gives rest_of result (words.keyword text.now (rest_of at.entry)) }
+pub fn keyword<'a>(at: Cursor<'a>, text: &[u8]) -> Result<Cursor<'a>, LineFault>
+    ensures { Tells rest_of result (words.keyword text.now (rest_of at.entry)) }
 {
     if says(at, text) {
         Ok(behind_word(at))
     } else {
-        Err(fault_at(at.column, Kind::Word))
+        Err(LineFault::at(at.column, Kind::Word))
     }
 }
 
@@ -79,8 +79,8 @@ fn ends_word(bytes: &[u8]) -> bool
 
 /// What was read has to end here; the same with the place of what follows. Another byte than a blank is Word.
 #[tactic(auto, unfolding(crate::specs::Words::ended))]
-pub fn ended<'a, T: Drop>(parsed: Parsed<'a, T>) -> Result<Parsed<'a, T>, LineError>
-    ensures { Gives read_of result (words.ended (read_of parsed.entry)) }
+pub fn ended<'a, T: Drop>(parsed: Parsed<'a, T>) -> Result<Parsed<'a, T>, LineFault>
+    ensures { Tells read_of result (words.ended (read_of parsed.entry)) }
 {
     if ends_word(parsed.rest.bytes) {
         Ok(Parsed {
@@ -89,6 +89,6 @@ pub fn ended<'a, T: Drop>(parsed: Parsed<'a, T>) -> Result<Parsed<'a, T>, LineEr
             seen: parsed.seen,
         })
     } else {
-        Err(fault_at(parsed.rest.column, Kind::Word))
+        Err(LineFault::at(parsed.rest.column, Kind::Word))
     }
 }

@@ -1,5 +1,6 @@
 -- What is read as an operation has its form, and what has the form is read as it.
-use Rattle.std.proofs.Common.{◌≡◌, ℕ, ◌≤◌, ◌<◌, ◌^◌, List, [], ◌∷◌, true, Ok, Err, Some, refl, ap, sym, ◌∙◌, subst, map, arith}
+use Rattle.std.proofs.Common.{◌≡◌, ℕ, ◌≤◌, ◌<◌, ◌^◌, List, [], ◌∷◌, true, Ok, Err, Some, refl, ap, sym, ◌∙◌, subst}
+use Rattle.std.proofs.Common.{map, arith}
 use Rattle.std.specs.Prelude.{ℤ, pos, negsuc, ◌≤ℤ◌, unsigned_abs, int_le, ⊤}
 use Rattle.std.proofs.lemmas.Int.{ints}
 use Rattle.po_word.specs.Words.{word_of}
@@ -25,14 +26,16 @@ use Rattle.po_ir.specs.Grammar.{IsWordNumber, IsNumberAlone, IsNameAlone, IsArgu
 le_true : (a b : ℤ) → a ≤ℤ b → int_le a b ≡ true
 le_true a b h = grind (arith, ints)
 
-number_again : (low high z : ℤ) (w : Placed) → number_of w.bytes ≡ Some z → low ≤ℤ z → z ≤ℤ high → number_in low high w ≡ Ok z
+number_again : (low high z : ℤ) (w : Placed) → number_of w.bytes ≡ Some z → low ≤ℤ z → z ≤ℤ high
+    → number_in low high w ≡ Ok z
 unfolding number_in
 number_again low high z w e under over = rw (e, le_true low z under, le_true z high over) refl
 
 -- a number of a machine word
 word_number_again : (w : Placed) (n : ℕ) → IsWordNumber w.bytes n → word_number_in w ≡ Ok n
 unfolding word_number_in
-word_number_again w n h = rw (number_again (negsuc 2147483647) (pos 4294967295) h.value w h.number h.under h.over) (ap Ok h.word)
+word_number_again w n h =
+    rw (number_again (negsuc 2147483647) (pos 4294967295) h.value w h.number h.under h.over) (ap Ok h.word)
 
 word_number_found : (w : Placed) (n : ℕ) → word_number_in w ≡ Ok n → IsWordNumber w.bytes n
 unfolding word_number_in
@@ -42,15 +45,19 @@ word_number_found w n e =
     record { value = b.0; number = f.number; under = f.under; over = f.over; word = ok_is b.2 }
 
 -- a number from 0 on
-small_number_again : (most n : ℕ) (w : Placed) → number_of w.bytes ≡ Some (pos n) → n ≤ most → small_number_in most w ≡ Ok n
+small_number_again : (most n : ℕ) (w : Placed) → number_of w.bytes ≡ Some (pos n) → n ≤ most
+    → small_number_in most w ≡ Ok n
 unfolding small_number_in
-small_number_again most n w e h = rw (number_again (pos 0) (pos most) (pos n) w e (omega (arith, ints)) (omega (arith, ints))) refl
+small_number_again most n w e h =
+    rw (number_again (pos 0) (pos most) (pos n) w e (omega (arith, ints)) (omega (arith, ints))) refl
 
-small_parts : (most n : ℕ) (bytes : List ℕ) (z : ℤ) → number_of bytes ≡ Some z → pos 0 ≤ℤ z → z ≤ℤ pos most → unsigned_abs z ≡ n → (number_of bytes ≡ Some (pos n)) × (n ≤ most)
+small_parts : (most n : ℕ) (bytes : List ℕ) (z : ℤ) → number_of bytes ≡ Some z → pos 0 ≤ℤ z → z ≤ℤ pos most
+    → unsigned_abs z ≡ n → (number_of bytes ≡ Some (pos n)) × (n ≤ most)
 small_parts most n bytes (pos m) e under over abs = (e ∙ ap (λ (k : ℕ). Some (pos k)) abs, omega (arith, ints))
 small_parts most n bytes (negsuc m) e under over abs = absurd (omega (arith, ints))
 
-small_number_found : (most n : ℕ) (w : Placed) → small_number_in most w ≡ Ok n → (number_of w.bytes ≡ Some (pos n)) × (n ≤ most)
+small_number_found : (most n : ℕ) (w : Placed) → small_number_in most w ≡ Ok n
+    → (number_of w.bytes ≡ Some (pos n)) × (n ≤ most)
 unfolding small_number_in
 small_number_found most n w e =
     let b = bind_ok (number_in (pos 0) (pos most) w) (λ z. Ok (unsigned_abs z)) n e in
@@ -68,39 +75,51 @@ no_more_found [] r e = refl
 no_more_found (w ∷ ws) r e = absurd (not_ok e)
 
 -- a number, and no further word
-number_alone_again : (n : ℕ) (ws : List Placed) (end : ℕ) → IsNumberAlone n (map bytes_of ws) → word_number_alone ws end ≡ Ok n
+number_alone_again : (n : ℕ) (ws : List Placed) (end : ℕ) → IsNumberAlone n (map bytes_of ws)
+    → word_number_alone ws end ≡ Ok n
 unfolding word_number_alone first_word rest_words no_more
 number_alone_again n [] end h = let e = h.2 in cc
-number_alone_again n (w ∷ []) end h = let e : w.bytes ≡ h.0 = (let f = h.2 in cc) in rw (word_number_again w n (subst (λ (d : List ℕ). IsWordNumber d n) (sym e) h.1)) refl
+number_alone_again n (w ∷ []) end h =
+    let e : w.bytes ≡ h.0 = (let f = h.2 in cc) in
+    rw (word_number_again w n (subst (λ (d : List ℕ). IsWordNumber d n) (sym e) h.1)) refl
 number_alone_again n (w ∷ v ∷ ws) end h = let e = h.2 in cc
 
-number_alone_found : (n : ℕ) (ws : List Placed) (end : ℕ) → word_number_alone ws end ≡ Ok n → IsNumberAlone n (map bytes_of ws)
+number_alone_found : (n : ℕ) (ws : List Placed) (end : ℕ) → word_number_alone ws end ≡ Ok n
+    → IsNumberAlone n (map bytes_of ws)
 unfolding word_number_alone first_word rest_words
 number_alone_found n [] end e = absurd (not_ok e)
 number_alone_found n (w ∷ ws) end e =
     let b = bind_ok (word_number_in w) (λ m. no_more ws >>= λ rest. Ok m) n e in
-    let t = bind_ok (no_more ws) (λ rest. Ok b.0) n b.2 in
-    (w.bytes, subst (λ (m : ℕ). IsWordNumber w.bytes m) (ok_is t.2) (word_number_found w b.0 b.1), ap (λ (r : List (List ℕ)). w.bytes ∷ r) (no_more_found ws t.0 t.1))
+    let t = bind_ok (no_more ws) (λ rest. Ok b.0) n b.2 in (
+      w.bytes,
+      subst (λ (m : ℕ). IsWordNumber w.bytes m) (ok_is t.2) (word_number_found w b.0 b.1),
+      ap (λ (r : List (List ℕ)). w.bytes ∷ r) (no_more_found ws t.0 t.1),
+    )
 
 -- a name, and no further word
 name_is : (w : Placed) (l : List ℕ) → is_name l ≡ true → w.bytes ≡ l → name_in w ≡ Ok l
-name_is w l h e = subst (λ (b : List ℕ). name_in w ≡ Ok b) e (name_again w (subst (λ (b : List ℕ). is_name b ≡ true) (sym e) h))
+name_is w l h e =
+    subst (λ (b : List ℕ). name_in w ≡ Ok b) e (name_again w (subst (λ (b : List ℕ). is_name b ≡ true) (sym e) h))
 
-pub name_alone_again : (l : List ℕ) (ws : List Placed) (end : ℕ) → IsNameAlone l (map bytes_of ws) → name_alone ws end ≡ Ok l
+pub name_alone_again : (l : List ℕ) (ws : List Placed) (end : ℕ) → IsNameAlone l (map bytes_of ws)
+    → name_alone ws end ≡ Ok l
 unfolding name_alone first_word rest_words no_more
 name_alone_again l [] end h = let e = h.1 in cc
 name_alone_again l (w ∷ []) end h = let e : w.bytes ≡ l = (let f = h.1 in cc) in rw (name_is w l h.0 e) refl
 name_alone_again l (w ∷ v ∷ ws) end h = let e = h.1 in cc
 
-pub name_alone_found : (l : List ℕ) (ws : List Placed) (end : ℕ) → name_alone ws end ≡ Ok l → IsNameAlone l (map bytes_of ws)
+pub name_alone_found : (l : List ℕ) (ws : List Placed) (end : ℕ) → name_alone ws end ≡ Ok l
+    → IsNameAlone l (map bytes_of ws)
 unfolding name_alone first_word rest_words
 name_alone_found l [] end e = absurd (not_ok e)
 name_alone_found l (w ∷ ws) end e =
     let b = bind_ok (name_in w) (λ m. no_more ws >>= λ rest. Ok m) l e in
     let t = bind_ok (no_more ws) (λ rest. Ok b.0) l b.2 in
     let f = name_found w b.0 b.1 in
-    let same : w.bytes ≡ l = f.1 ∙ ok_is t.2 in
-    (subst (λ (m : List ℕ). is_name m ≡ true) same f.0, ap (λ (m : List ℕ). m ∷ map bytes_of ws) same ∙ ap (λ (r : List (List ℕ)). l ∷ r) (no_more_found ws t.0 t.1))
+    let same : w.bytes ≡ l = f.1 ∙ ok_is t.2 in (
+      subst (λ (m : List ℕ). is_name m ≡ true) same f.0,
+      ap (λ (m : List ℕ). m ∷ map bytes_of ws) same ∙ ap (λ (r : List (List ℕ)). l ∷ r) (no_more_found ws t.0 t.1),
+    )
 
 alone_again : (o : Op) (ws : List Placed) → map bytes_of ws ≡ [] → alone o ws ≡ Ok o
 unfolding alone
@@ -114,7 +133,8 @@ arg_again k (w ∷ []) end h =
     rw (small_number_again 3 k w (ap number_of e ∙ h.1) h.2) refl
 arg_again k (w ∷ v ∷ ws) end h = let e = h.3 in cc
 
-call_again : (f : List ℕ) (n : ℕ) (ws : List Placed) (end : ℕ) → IsArgument (op.Call f n) (map bytes_of ws) → call_in_line ws end ≡ Ok (op.Call f n)
+call_again : (f : List ℕ) (n : ℕ) (ws : List Placed) (end : ℕ) → IsArgument (op.Call f n) (map bytes_of ws)
+    → call_in_line ws end ≡ Ok (op.Call f n)
 unfolding call_in_line first_word rest_words no_more
 call_again f n [] end h = let e = h.4 in cc
 call_again f n (w ∷ []) end h = let e = h.4 in cc
@@ -147,7 +167,8 @@ op_again op.Ret ws end h = alone_again op.Ret ws h
 abbrev Found : Key → List Placed → Op → Type 0
 Found k ws o = (key_of o ≡ k) × IsArgument o (map bytes_of ws)
 
-alone_found : (k : Key) (p : Op) (ws : List Placed) (o : Op) → (map bytes_of ws ≡ [] → Found k ws p) → alone p ws ≡ Ok o → Found k ws o
+alone_found : (k : Key) (p : Op) (ws : List Placed) (o : Op) → (map bytes_of ws ≡ [] → Found k ws p)
+    → alone p ws ≡ Ok o → Found k ws o
 unfolding alone
 alone_found k p ws o form e =
     let b = bind_ok (no_more ws) (λ r. Ok p) o e in
@@ -172,8 +193,17 @@ call_found (w ∷ v ∷ ws) end o e =
     let t = bind_ok (no_more ws) (λ rest. Ok (op.Call b.0 c.0)) o c.2 in
     let f = name_found w b.0 b.1 in
     let s = small_number_found 4 c.0 v c.1 in
-    subst (λ (q : Op). Found key.Call (w ∷ v ∷ ws) q) (ok_is t.2)
-    (refl, (v.bytes, subst (λ (m : List ℕ). is_name m ≡ true) f.1 f.0, s.0, s.1, ap (λ (m : List ℕ). m ∷ v.bytes ∷ map bytes_of ws) f.1 ∙ ap (λ (r : List (List ℕ)). b.0 ∷ v.bytes ∷ r) (no_more_found ws t.0 t.1)))
+    subst (λ (q : Op). Found key.Call (w ∷ v ∷ ws) q) (ok_is t.2) (
+      refl,
+      (
+        v.bytes,
+        subst (λ (m : List ℕ). is_name m ≡ true) f.1 f.0,
+        s.0,
+        s.1,
+        ap (λ (m : List ℕ). m ∷ v.bytes ∷ map bytes_of ws) f.1
+            ∙ ap (λ (r : List (List ℕ)). b.0 ∷ v.bytes ∷ r) (no_more_found ws t.0 t.1),
+      ),
+    )
 
 -- what is read as an operation has its form
 pub op_found : (k : Key) (ws : List Placed) (end : ℕ) (o : Op) → op_in k ws end ≡ Ok o → Found k ws o

@@ -3,7 +3,8 @@ use Rattle.std.proofs.Common.{◌≡◌, ℕ, List, [], ◌∷◌, ◌++◌, ref
 use Rattle.po_ir.specs.declared.unit.Op.{Op}
 use Rattle.po_ir.specs.declared.unit.Unit.{Unit}
 use Rattle.po_ir.specs.Reading.{unit_name}
-use Rattle.po_ir.specs.Ops.{depth_by, depth_from, depth_of, ends_from, ends_well, leaves, label_in, labels_of, args_by, args_from, args_of}
+use Rattle.po_ir.specs.Ops.{depth_by, depth_from, depth_of, ends_from, ends_well, leaves, label_in, labels_of, args_by}
+use Rattle.po_ir.specs.Ops.{args_from, args_of}
 
 depth_more : (d : ℕ) (os : List Op) (o : Op) → depth_from d (os ++ o ∷ []) ≡ depth_by (depth_from d os) o
 depth_more d [] o = refl
@@ -32,8 +33,16 @@ append_none (x ∷ xs) = ap (λ (r : List (List ℕ)). x ∷ r) (append_none xs)
 
 pub labels_next : (os : List Op) (o : Op) → labels_of (os ++ o ∷ []) ≡ labels_of os ++ label_in o
 labels_next [] o = append_none (label_in o)
-labels_next (p ∷ os) o = ap (λ (r : List (List ℕ)). label_in p ++ r) (labels_next os o) ∙ sym (append_assoc (label_in p) (labels_of os) (label_in o))
+labels_next (p ∷ os) o =
+    ap (λ (r : List (List ℕ)). label_in p ++ r) (labels_next os o)
+    ∙ sym (append_assoc (label_in p) (labels_of os) (label_in o))
 
 pub map_next : (us : List Unit) (u : Unit) → map unit_name (us ++ u ∷ []) ≡ map unit_name us ++ u.name ∷ []
 map_next [] u = refl
 map_next (v ∷ us) u = ap (λ (r : List (List ℕ)). v.name ∷ r) (map_next us u)
+
+-- what is kept beside the operations, after one more
+pub ruleset one_more_op = (depth_next, ends_next, labels_next, args_next)
+
+-- what is kept beside the units, after one more
+pub ruleset one_more_unit = (map_next, append_none)

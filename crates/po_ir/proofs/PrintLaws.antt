@@ -1,5 +1,6 @@
 -- A printed unit is read as itself.
-use Rattle.std.proofs.Common.{◌≡◌, ℕ, suc, ◌+◌, ◌-◌, ◌≤◌, ◌<◌, ◌^◌, List, [], ◌∷◌, ◌++◌, Bool, true, false, Ok, Some, refl, ap, sym, ◌∙◌, subst, map, length, arith, append_assoc, length-append, All}
+use Rattle.std.proofs.Common.{◌≡◌, ℕ, suc, ◌+◌, ◌-◌, ◌≤◌, ◌<◌, ◌^◌, List, [], ◌∷◌, ◌++◌, Bool, true, false, Ok, Some}
+use Rattle.std.proofs.Common.{refl, ap, sym, ◌∙◌, subst, map, length, arith, append_assoc, length-append, All}
 use Rattle.std.specs.Prelude.{ℤ, pos, negsuc, ◌≤ℤ◌, codes, ◌==◌, ◌&&◌, nat_eq, nat_le, nat_lt, slice_index}
 use Rattle.std.specs.Char.{is_ascii_digit}
 use Rattle.std.specs.Int.{w32}
@@ -40,7 +41,9 @@ record IsPrinted (w : List ℕ) : Type 0 where
   some : 0 < length w
   graphic : list_all (nat_le 33) w ≡ true
 
-key_printed : (k : Key) → (list_all (nat_le 33) (key_text k) ≡ true) × (nat_lt 0 (length (key_text k)) ≡ true) × (nat_le (length (key_text k)) 4 ≡ true)
+key_printed : (k : Key)
+    → (list_all (nat_le 33) (key_text k) ≡ true) × (nat_lt 0 (length (key_text k)) ≡ true)
+    × (nat_le (length (key_text k)) 4 ≡ true)
 key_printed key.Con = (refl, refl, refl)
 key_printed key.Adl = (refl, refl, refl)
 key_printed key.Adg = (refl, refl, refl)
@@ -90,11 +93,13 @@ key_few : (k : Key) → length (key_text k) ≤ 4
 key_few k = at_most (length (key_text k)) 4 (key_printed k).2
 
 -- a test that each byte passes if it passes another
-all_weaker : (p q : ℕ → Bool) → ((b : ℕ) → p b ≡ true → q b ≡ true) → (bs : List ℕ) → list_all p bs ≡ true → list_all q bs ≡ true
+all_weaker : (p q : ℕ → Bool) → ((b : ℕ) → p b ≡ true → q b ≡ true) → (bs : List ℕ) → list_all p bs ≡ true
+    → list_all q bs ≡ true
 all_weaker p q w [] h = refl
 all_weaker p q w (b ∷ bs) h = let e = both (p b) (list_all p bs) h in rw (w b e.0, all_weaker p q w bs e.1) refl
 
-each_byte : (p : ℕ → Bool) (P : ℕ → Type 0) → ((b : ℕ) → p b ≡ true → P b) → (bs : List ℕ) → list_all p bs ≡ true → AllByRecursion P bs
+each_byte : (p : ℕ → Bool) (P : ℕ → Type 0) → ((b : ℕ) → p b ≡ true → P b) → (bs : List ℕ) → list_all p bs ≡ true
+    → AllByRecursion P bs
 each_byte p P w [] h = tt
 each_byte p P w (b ∷ bs) h = let e = both (p b) (list_all p bs) h in (w b e.0, each_byte p P w bs e.1)
 
@@ -135,7 +140,11 @@ wide : (n : ℕ) → n ≤ 4294967296 → n < 2 ^ 64
 wide n h = omega arith
 
 decimal_printed : (n : ℕ) → n ≤ 4294967296 → IsPrinted (decimal n)
-decimal_printed n h = record { some = (decimal_is_IsNumeral n (wide n h)).0.0; graphic = all_weaker is_ascii_digit (nat_le 33) digit_byte (decimal n) (digits_decimal own n (wide n h)) }
+decimal_printed n h =
+    record {
+      some = (decimal_is_IsNumeral n (wide n h)).0.0;
+      graphic = all_weaker is_ascii_digit (nat_le 33) digit_byte (decimal n) (digits_decimal own n (wide n h));
+    }
 
 decimal_few : (n : ℕ) → n ≤ 4294967296 → length (decimal n) ≤ 10
 decimal_few n h = length-decimal-le 10 n (omega arith) (omega arith) (wide n h)
@@ -148,7 +157,8 @@ above n h = omega (arith, ints)
 
 signed_printed : (z : ℤ) → negsuc 4294967295 ≤ℤ z → z ≤ℤ pos 4294967295 → IsPrinted (signed_decimal z)
 signed_printed (pos n) low high = decimal_printed n (below n high)
-signed_printed (negsuc n) low high = let d = decimal_printed (suc n) (above n low) in record { some = omega arith; graphic = d.graphic }
+signed_printed (negsuc n) low high =
+    let d = decimal_printed (suc n) (above n low) in record { some = omega arith; graphic = d.graphic }
 
 signed_few : (z : ℤ) → negsuc 4294967295 ≤ℤ z → z ≤ℤ pos 4294967295 → length (signed_decimal z) ≤ 64
 signed_few (pos n) low high = let few = decimal_few n (below n high) in omega (arith, few)
@@ -161,7 +171,14 @@ number_few : (n : ℕ) → n < 2 ^ 32 → length (number_text n) ≤ 64
 number_few n h = signed_few (signed n) (omega (arith, ints)) (omega (arith, ints))
 
 number_form : (n : ℕ) → n < 2 ^ 32 → IsWordNumber (number_text n) n
-number_form n h = record { value = signed n; number = printed_again (signed n) (omega (arith, ints)) (omega (arith, ints)); under = omega (arith, ints); over = omega (arith, ints); word = of_z-to_z w32 n h }
+number_form n h =
+    record {
+      value = signed n;
+      number = printed_again (signed n) (omega (arith, ints)) (omega (arith, ints));
+      under = omega (arith, ints);
+      over = omega (arith, ints);
+      word = of_z-to_z w32 n h;
+    }
 
 small_form : (k : ℕ) → k ≤ 4 → number_of (decimal k) ≡ Some (pos k)
 small_form k h = printed_again (pos k) (omega (arith, ints)) (omega (arith, ints))
@@ -193,14 +210,17 @@ record IsLine (ws : List (List ℕ)) : Type 0 where
 first_line : (w : List ℕ) → IsPrinted w → length w ≤ 4 → starts_with nat_eq w (codes "//") ≡ false → IsLine (w ∷ [])
 first_line w h few plain = record { words = (h, tt); short = omega (arith, few); speaks = plain }
 
-second_line : (w v : List ℕ) → IsPrinted w → length w ≤ 4 → starts_with nat_eq w (codes "//") ≡ false → IsPrinted v → length v ≤ 64 → IsLine (w ∷ v ∷ [])
+second_line : (w v : List ℕ) → IsPrinted w → length w ≤ 4 → starts_with nat_eq w (codes "//") ≡ false → IsPrinted v
+    → length v ≤ 64 → IsLine (w ∷ v ∷ [])
 second_line w v h few plain g small =
     let long : length (w ++ 32 ∷ v) ≡ length w + length (32 ∷ v) = length-append w (32 ∷ v) in
     record { words = (h, (g, tt)); short = omega (arith, few, small, long); speaks = plain }
 
-third_line : (w v x : List ℕ) → IsPrinted w → length w ≤ 4 → starts_with nat_eq w (codes "//") ≡ false → IsPrinted v → length v ≤ 64 → IsPrinted x → length x ≤ 10 → IsLine (w ∷ v ∷ x ∷ [])
+third_line : (w v x : List ℕ) → IsPrinted w → length w ≤ 4 → starts_with nat_eq w (codes "//") ≡ false → IsPrinted v
+    → length v ≤ 64 → IsPrinted x → length x ≤ 10 → IsLine (w ∷ v ∷ x ∷ [])
 third_line w v x h few plain g small f tiny =
-    let long : length (w ++ 32 ∷ (v ++ 32 ∷ x)) ≡ length w + length (32 ∷ (v ++ 32 ∷ x)) = length-append w (32 ∷ (v ++ 32 ∷ x)) in
+    let long : length (w ++ 32 ∷ (v ++ 32 ∷ x)) ≡ length w + length (32 ∷ (v ++ 32 ∷ x)) =
+    length-append w (32 ∷ (v ++ 32 ∷ x)) in
     let more : length (v ++ 32 ∷ x) ≡ length v + length (32 ∷ x) = length-append v (32 ∷ x) in
     record { words = (h, (g, (f, tt))); short = omega (arith, few, small, tiny, long, more); speaks = plain }
 
@@ -223,10 +243,14 @@ op_line op.Pop h = alone_line key.Pop
 op_line (op.Lab l) h = with_line key.Lab l (name_printed l h) (name_few l h)
 op_line (op.Jmp l) h = with_line key.Jmp l (name_printed l h) (name_few l h)
 op_line (op.Br r l) h = with_line (key.Br r) l (name_printed l h) (name_few l h)
-op_line (op.Arg k) h = (let few = decimal_few k (omega (arith, h)) in with_line key.Arg (decimal k) (decimal_printed k (omega (arith, h))) (omega (arith, few)))
+op_line (op.Arg k) h =
+    (let few = decimal_few k (omega (arith, h)) in
+    with_line key.Arg (decimal k) (decimal_printed k (omega (arith, h))) (omega (arith, few)))
 op_line (op.Call f n) h =
     let small = h.1 in
-    third_line (key_text key.Call) f (decimal n) (key_is_printed key.Call) (key_few key.Call) (key_facts key.Call).2 (name_printed f h.0) (name_few f h.0) (decimal_printed n (omega (arith, small))) (decimal_few n (omega (arith, small)))
+    third_line (key_text key.Call) f (decimal n) (key_is_printed key.Call) (key_few key.Call) (key_facts key.Call).2
+    (name_printed f h.0) (name_few f h.0) (decimal_printed n (omega (arith, small)))
+    (decimal_few n (omega (arith, small)))
 op_line op.Ret h = alone_line key.Ret
 
 op_lines : (os : List Op) → AllByRecursion IsOp os → AllByRecursion IsLine (map op_words os ++ (codes "end" ∷ []) ∷ [])
@@ -235,7 +259,8 @@ op_lines (o ∷ os) h = (op_line o h.0, op_lines os h.1)
 
 unit_lines : (u : StackUnit) → IsUnit u → AllByRecursion IsLine (unit_words u)
 unit_lines u h = (
-  second_line (codes "unit") u.name (record { some = omega arith; graphic = refl }) (omega arith) refl (name_printed u.name h.name) (name_few u.name h.name),
+  second_line (codes "unit") u.name (record { some = omega arith; graphic = refl }) (omega arith) refl
+      (name_printed u.name h.name) (name_few u.name h.name),
   op_lines u.ops (recursion_from_All IsOp u.ops h.each),
 )
 
@@ -245,42 +270,69 @@ line_low [] h = refl
 line_low (w ∷ []) h = let g = h.0 in all_weaker (nat_le 33) (nat_le 32) lower w g.graphic
 line_low (w ∷ v ∷ vs) h =
     let g = h.0 in
-    rw (list_all-append (nat_le 32) w (32 ∷ join_with_byte 32 (v ∷ vs)), all_weaker (nat_le 33) (nat_le 32) lower w g.graphic, line_low (v ∷ vs) h.1) refl
+    rw (
+      list_all-append (nat_le 32) w (32 ∷ join_with_byte 32 (v ∷ vs)),
+      all_weaker (nat_le 33) (nat_le 32) lower w g.graphic,
+      line_low (v ∷ vs) h.1,
+    ) refl
 
 no_return : (l : List ℕ) → All (λ b. (b == 13) ≡ false) l → strip_carriage_return l ≡ l
 no_return [] h = refl
-no_return (b ∷ bs) h = let e : (slice_index (b ∷ bs) (length (b ∷ bs) - 1) == 13) ≡ false = h (length (b ∷ bs) - 1) 0 (omega arith) in rw e refl
+no_return (b ∷ bs) h =
+    let e : (slice_index (b ∷ bs) (length (b ∷ bs) - 1) == 13) ≡ false = h (length (b ∷ bs) - 1) 0 (omega arith) in
+    rw e refl
 
 solid_words : (ws : List (List ℕ)) → AllByRecursion IsPrinted ws → AllByRecursion IsSolid ws
 solid_words [] h = tt
-solid_words (w ∷ ws) h = let g = h.0 in (record { some = g.some; solid = each_byte (nat_le 33) (λ b. is_blank b ≡ false) not_blank w g.graphic }, solid_words ws h.1)
+solid_words (w ∷ ws) h =
+    let g = h.0 in (
+      record { some = g.some; solid = each_byte (nat_le 33) (λ b. is_blank b ≡ false) not_blank w g.graphic },
+      solid_words ws h.1,
+    )
 
 record Some_part (parts : List (List ℕ)) : Type 0 where
   first : List ℕ
   more : List (List ℕ)
   is : parts ≡ first ∷ more
 
-cut_line : (ws : List (List ℕ)) (rest : List ℕ) → IsLine ws → slice_split is_feed (line_text ws ++ rest) ≡ join_with_byte 32 ws ∷ slice_split is_feed rest
+cut_line : (ws : List (List ℕ)) (rest : List ℕ) → IsLine ws
+    → slice_split is_feed (line_text ws ++ rest) ≡ join_with_byte 32 ws ∷ slice_split is_feed rest
 cut_line ws rest h =
     rw (append_assoc (join_with_byte 32 ws) (10 ∷ []) rest)
-    (slice_split_at is_feed (join_with_byte 32 ws) 10 rest (All-from_recursion _ (join_with_byte 32 ws) (each_byte (nat_le 32) (λ b. is_feed b ≡ false) not_feed (join_with_byte 32 ws) (line_low ws h.words))) refl)
+    (slice_split_at is_feed (join_with_byte 32 ws) 10 rest
+    (All-from_recursion _ (join_with_byte 32 ws)
+    (each_byte (nat_le 32) (λ b. is_feed b ≡ false) not_feed (join_with_byte 32 ws) (line_low ws h.words))) refl)
 
-some_part : (ws : List (List (List ℕ))) → AllByRecursion IsLine ws → Some_part (slice_split is_feed (flat_map line_text ws))
+some_part : (ws : List (List (List ℕ))) → AllByRecursion IsLine ws
+    → Some_part (slice_split is_feed (flat_map line_text ws))
 some_part [] h = record { first = []; more = []; is = refl }
-some_part (w ∷ ws) h = record { first = join_with_byte 32 w; more = slice_split is_feed (flat_map line_text ws); is = cut_line w (flat_map line_text ws) h.0 }
+some_part (w ∷ ws) h =
+    record {
+      first = join_with_byte 32 w;
+      more = slice_split is_feed (flat_map line_text ws);
+      is = cut_line w (flat_map line_text ws) h.0;
+    }
 
 two_parts : (n o : ℕ) (x : List ℕ) (parts : List (List ℕ)) → Some_part parts → strip_carriage_return x ≡ x
-    → lines_at n o (x ∷ parts) ≡ record { number = n; bytes = x; after = o + length x + 1 } ∷ lines_at (n + 1) (o + length x + 1) parts
-two_parts n o x parts p plain = rw p.is (ap (λ (b : List ℕ). record { number = n; bytes = b; after = o + length x + 1 } ∷ lines_at (n + 1) (o + length x + 1) (p.first ∷ p.more)) plain)
+    → lines_at n o (x ∷ parts)
+    ≡ record { number = n; bytes = x; after = o + length x + 1 } ∷ lines_at (n + 1) (o + length x + 1) parts
+two_parts n o x parts p plain =
+    rw p.is (ap
+    (λ (b : List ℕ). record { number = n; bytes = b; after = o + length x + 1 }
+    ∷ lines_at (n + 1) (o + length x + 1) (p.first ∷ p.more)) plain)
 
 -- printed lines are these lines
 next_line : (n o : ℕ) (w : List (List ℕ)) (ws : List (List (List ℕ))) → IsLine w → AllByRecursion IsLine ws
-    → lines_from n o (flat_map line_text (w ∷ ws)) ≡ record { number = n; bytes = join_with_byte 32 w; after = o + length (join_with_byte 32 w) + 1 } ∷ lines_from (n + 1) (o + length (join_with_byte 32 w) + 1) (flat_map line_text ws)
+    → lines_from n o (flat_map line_text (w ∷ ws))
+    ≡ record { number = n; bytes = join_with_byte 32 w; after = o + length (join_with_byte 32 w) + 1 }
+    ∷ lines_from (n + 1) (o + length (join_with_byte 32 w) + 1) (flat_map line_text ws)
 unfolding lines_from
 next_line n o w ws h hs =
     ap (lines_at n o) (cut_line w (flat_map line_text ws) h)
     ∙ two_parts n o (join_with_byte 32 w) (slice_split is_feed (flat_map line_text ws)) (some_part ws hs)
-    (no_return (join_with_byte 32 w) (All-from_recursion _ (join_with_byte 32 w) (each_byte (nat_le 32) (λ b. (b == 13) ≡ false) not_return (join_with_byte 32 w) (line_low w h.words))))
+    (no_return (join_with_byte 32 w)
+    (All-from_recursion _ (join_with_byte 32 w)
+    (each_byte (nat_le 32) (λ b. (b == 13) ≡ false) not_return (join_with_byte 32 w) (line_low w h.words))))
 
 no_line : (n o : ℕ) → lines_from n o [] ≡ []
 unfolding lines_from
@@ -291,18 +343,23 @@ record Says (ls : List Numbered) (ws : List (List (List ℕ))) : Type 0 where
   said_is : said ls ≡ ws
   short : All IsShort ls
 
-says_more : (l : Numbered) (w : List (List ℕ)) (ls : List Numbered) (ws : List (List (List ℕ))) → texts_of l ≡ w → is_silent w ≡ false → IsShort l → Says ls ws → Says (l ∷ ls) (w ∷ ws)
+says_more : (l : Numbered) (w : List (List ℕ)) (ls : List Numbered) (ws : List (List (List ℕ))) → texts_of l ≡ w
+    → is_silent w ≡ false → IsShort l → Says ls ws → Says (l ∷ ls) (w ∷ ws)
 says_more l w ls ws text speaks short h = record {
-  said_is = rw (subst (λ (x : List (List ℕ)). is_silent x ≡ false) (sym text) speaks) (ap (λ (x : List (List ℕ)). x ∷ said ls) text ∙ ap (λ (x : List (List (List ℕ))). w ∷ x) h.said_is);
+  said_is =
+      rw (subst (λ (x : List (List ℕ)). is_silent x ≡ false) (sym text) speaks)
+      (ap (λ (x : List (List ℕ)). x ∷ said ls) text ∙ ap (λ (x : List (List (List ℕ))). w ∷ x) h.said_is);
   short = All-cons IsShort l ls short h.short;
 }
 
-lines_say : (ws : List (List (List ℕ))) (n o : ℕ) → AllByRecursion IsLine ws → Says (lines_from n o (flat_map line_text ws)) ws
+lines_say : (ws : List (List (List ℕ))) (n o : ℕ) → AllByRecursion IsLine ws
+    → Says (lines_from n o (flat_map line_text ws)) ws
 lines_say [] n o h = rw (no_line n o) (record { said_is = refl; short = All-nil IsShort })
 lines_say (w ∷ ws) n o h =
     let g = h.0 in
     subst (λ (ls : List Numbered). Says ls (w ∷ ws)) (sym (next_line n o w ws g h.1))
-    (says_more _ w _ ws (words_again w (solid_words w g.words)) g.speaks g.short (lines_say ws (n + 1) (o + length (join_with_byte 32 w) + 1) h.1))
+    (says_more _ w _ ws (words_again w (solid_words w g.words)) g.speaks g.short
+    (lines_say ws (n + 1) (o + length (join_with_byte 32 w) + 1) h.1))
 
 op_forms : (os : List Op) → AllByRecursion IsOp os → AllZip IsOpLine (map op_words os) os
 op_forms [] h = tt
@@ -321,5 +378,6 @@ unit_written u n o h =
     }
 
 -- a printed unit is read as itself
-pub printed_unit_again : (u : StackUnit) (n : ℕ) → IsUnit u → units_behind (record { offset = 0; line = n }) (unit_text u) ≡ Ok (u ∷ [])
+pub printed_unit_again : (u : StackUnit) (n : ℕ) → IsUnit u
+    → units_behind (record { offset = 0; line = n }) (unit_text u) ≡ Ok (u ∷ [])
 printed_unit_again u n h = units_again (lines_from n 0 (unit_text u)) _ (u ∷ []) (unit_written u n 0 h)

@@ -1,5 +1,6 @@
 -- The fault that an operation decides behind those before it, and the one that `end` decides.
-use Rattle.std.specs.Prelude.{ℕ, List, Bool, not, nat_lt, nat_le, nat_eq, ◌&&◌, ◌||◌, if◌then◌else◌, Option, Some, None, find}
+use Rattle.std.specs.Prelude.{ℕ, List, Bool, not, nat_lt, nat_le, nat_eq, ◌&&◌, ◌||◌, if◌then◌else◌, Option, Some}
+use Rattle.std.specs.Prelude.{None, find}
 use Rattle.std.specs.List.{list_any}
 use Rattle.po_text.specs.declared.fault.Kind.TheVariants as kind
 use Rattle.po_lines.specs.declared.fault.LineFault.{LineFault}
@@ -7,7 +8,8 @@ use Rattle.po_lines.specs.Faults.{fault, TextFault, text_fault}
 use Rattle.po_lines.specs.NameList.{has}
 use Rattle.po_ir.specs.declared.unit.Op.{Op}
 use Rattle.po_ir.specs.declared.unit.Jump.{Jump}
-use Rattle.po_ir.specs.Ops.{pops, is_boundary, label_in, depth_of, depth_by, labels_of, args_of, args_wanted, ends_well}
+use Rattle.po_ir.specs.Ops.{pops, is_boundary, label_in, depth_of, depth_by, labels_of, args_of, args_wanted}
+use Rattle.po_ir.specs.Ops.{ends_well}
 
 -- it names a label that is there already
 abbrev pub repeats : List (List ℕ) → Op → Bool
@@ -21,8 +23,8 @@ has_arg n args k = nat_le n k || list_any (nat_eq k) args
 abbrev pub has_args : ℕ → List ℕ → Bool
 has_args n args = has_arg n args 0 && has_arg n args 1 && has_arg n args 2 && has_arg n args 3
 
--- the fault of an operation, whose label stands at this column, where so many values are on the stack, these labels are
--- in the unit and these arguments are set
+-- the fault of an operation, whose label stands at this column, where so many values are on the stack, these labels
+-- are in the unit and these arguments are set
 abbrev pub op_fault : ℕ → List (List ℕ) → List ℕ → Op → ℕ → Option LineFault
 op_fault depth labels args o column = if repeats labels o then Some (fault column kind.Duplicate)
     else (if nat_lt depth (pops o) then Some (fault 1 kind.StackUnderflow)
@@ -38,8 +40,8 @@ decided os o column = op_fault (depth_of os) (labels_of os) (args_of os) o colum
 abbrev pub misses : List (List ℕ) → Jump → Bool
 misses labels j = not (has j.label labels)
 
--- the fault at `end`, in this line, behind these operations and jumps: the first jump whose label isn't in the unit, and
--- else an end that is reached
+-- the fault at `end`, in this line, behind these operations and jumps: the first jump whose label isn't in the unit,
+-- and else an end that is reached
 abbrev pub end_fault : ℕ → List Op → List Jump → Option TextFault
 end_fault line os js = no_label (find (misses (labels_of os)) js)
   where

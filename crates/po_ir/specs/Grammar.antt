@@ -1,5 +1,7 @@
--- The form of a unit's lines, apart from how they are read: which words write an operation, and which lines write units.
-use Rattle.std.specs.Prelude.{◌≡◌, ℕ, ◌≤◌, List, [], ◌∷◌, ◌++◌, length, map, codes, Bool, true, not, nat_eq, ℤ, pos, negsuc, ◌≤ℤ◌, All, IsTrue, Some}
+-- The form of a unit's lines, apart from how they are read: which words write an operation, and which lines write
+-- units.
+use Rattle.std.specs.Prelude.{◌≡◌, ℕ, ◌≤◌, List, [], ◌∷◌, ◌++◌, length, map, codes, Bool, true, not, nat_eq, ℤ, pos}
+use Rattle.std.specs.Prelude.{negsuc, ◌≤ℤ◌, All, IsTrue, Some}
 use Rattle.std.specs.List.{AllZip, filter, starts_with}
 use Rattle.po_word.specs.Words.{word_of}
 use Rattle.po_text.specs.Number.{number_of}
@@ -44,7 +46,8 @@ IsArgument (op.Lab l) ws = IsNameAlone l ws
 IsArgument (op.Jmp l) ws = IsNameAlone l ws
 IsArgument (op.Br r l) ws = IsNameAlone l ws
 IsArgument (op.Arg k) ws = (digits : List ℕ) × (number_of digits ≡ Some (pos k)) × (k ≤ 3) × (ws ≡ digits ∷ [])
-IsArgument (op.Call f n) ws = (digits : List ℕ) × IsTrue (is_name f) × (number_of digits ≡ Some (pos n)) × (n ≤ 4) × (ws ≡ f ∷ digits ∷ [])
+IsArgument (op.Call f n) ws =
+    (digits : List ℕ) × IsTrue (is_name f) × (number_of digits ≡ Some (pos n)) × (n ≤ 4) × (ws ≡ f ∷ digits ∷ [])
 IsArgument op.Ret ws = ws ≡ []
 
 -- these words are the line of this operation

@@ -39,6 +39,7 @@ rel_text rel.Ltu = codes "bltu"
 rel_text rel.Geu = codes "bgeu"
 
 -- the word that each line begins with
+-- ORDER: operations
 abbrev pub key_text : Key → List ℕ
 key_text key.Con = codes "con"
 key_text key.Adl = codes "adl"
@@ -59,7 +60,8 @@ key_text (key.Br r) = rel_text r
 -- all of them
 abbrev pub keys : List Key
 keys =
-    key.Con ∷ key.Adl ∷ key.Adg ∷ key.Lod ∷ key.Sto ∷ key.Dup ∷ key.Pop ∷ key.Lab ∷ key.Jmp ∷ key.Arg ∷ key.Call ∷ key.Ret
+    key.Con ∷ key.Adl ∷ key.Adg ∷ key.Lod ∷ key.Sto ∷ key.Dup ∷ key.Pop ∷ key.Lab ∷ key.Jmp ∷ key.Arg ∷ key.Call
+    ∷ key.Ret
     ∷ key.Bin bin.Add ∷ key.Bin bin.Sub ∷ key.Bin bin.Mul ∷ key.Bin bin.And ∷ key.Bin bin.Or ∷ key.Bin bin.Xor
     ∷ key.Bin bin.Shl ∷ key.Bin bin.Shr ∷ key.Bin bin.Sar ∷ key.Un un.Neg ∷ key.Un un.Not
     ∷ key.Br rel.Eq ∷ key.Br rel.Ne ∷ key.Br rel.Lt ∷ key.Br rel.Le ∷ key.Br rel.Gt ∷ key.Br rel.Ge

@@ -13,4 +13,6 @@ ReadsWhatIsWritten = (ls : List Numbered) (line : ℕ) (us : List StackUnit) →
 
 -- the text of a unit is read as that unit
 abbrev pub ReadsPrinted : Type 0
-ReadsPrinted = (u : StackUnit) (line : ℕ) → IsUnit u → units_behind (record { offset = 0; line = line }) (unit_text u) ≡ Ok (u ∷ [])
+ReadsPrinted =
+    (u : StackUnit) (line : ℕ) → IsUnit u
+    → units_behind (record { offset = 0; line = line }) (unit_text u) ≡ Ok (u ∷ [])

@@ -1,4 +1,5 @@
--- What an operation does to the stack, to the block and to the labels, and what the operations so far say of the next one.
+-- What an operation does to the stack, to the block and to the labels, and what the operations so far say of the next
+-- one.
 use Rattle.std.specs.Prelude.{ℕ, ◌+◌, ◌-◌, List, [], ◌∷◌, ◌++◌, Bool, true, false, if◌then◌else◌}
 use Rattle.std.specs.List.{flat_map}
 use Rattle.po_ir.specs.declared.unit.Op.{Op}
@@ -7,6 +8,7 @@ use Rattle.po_ir.specs.declared.unit.Key.{Key}
 use Rattle.po_ir.specs.declared.unit.Key.TheVariants as key
 
 -- what the first word of its line says
+-- ORDER: operations
 abbrev pub key_of : Op → Key
 key_of (op.Con n) = key.Con
 key_of (op.Adl n) = key.Adl
@@ -24,9 +26,9 @@ key_of (op.Arg k) = key.Arg
 key_of (op.Call f n) = key.Call
 key_of op.Ret = key.Ret
 
--- One operation: how many values it takes and puts back, whether a block ends or begins there (the stack is then empty, but for what it
--- takes), whether what stands behind it is not reached from it, the labels that it names and goes to, the arguments that it sets, and how
--- many have to be set before it in its block.
+-- One operation: how many values it takes and puts back, whether a block ends or begins there (the stack is then
+-- empty, but for what it takes), whether what stands behind it is not reached from it, the labels that it names and
+-- goes to, the arguments that it sets, and how many have to be set before it in its block.
 pub record Facts : Type 0 where
   pub pops : ℕ
   pub pushes : ℕ
@@ -38,11 +40,21 @@ pub record Facts : Type 0 where
   pub wanted : ℕ
 
 abbrev pub row : ℕ → ℕ → Bool → Bool → List (List ℕ) → List (List ℕ) → List ℕ → ℕ → Facts
-row pops pushes boundary leaves label target arg wanted = record { pops = pops; pushes = pushes; boundary = boundary; leaves = leaves; label = label; target = target; arg = arg; wanted = wanted }
+row pops pushes boundary leaves label target arg wanted =
+    record {
+      pops = pops;
+      pushes = pushes;
+      boundary = boundary;
+      leaves = leaves;
+      label = label;
+      target = target;
+      arg = arg;
+      wanted = wanted;
+    }
 
--- `dup` takes one, and puts it back twice
+-- A row: pops, pushes, boundary, leaves, label, target, arg, wanted. `dup` takes one, and puts it back twice.
+-- ORDER: operations
 abbrev pub facts : Op → Facts
---                   pops pushes boundary leaves label    target   arg      wanted
 facts (op.Con n) = row 0 1 false false [] [] [] 0
 facts (op.Adl n) = row 0 1 false false [] [] [] 0
 facts (op.Adg s) = row 0 1 false false [] [] [] 0

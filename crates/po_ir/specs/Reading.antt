@@ -1,5 +1,6 @@
 -- What the lines of a text say, one behind the other, or the first fault that a line decides.
-use Rattle.std.specs.Prelude.{◌≡◌, ℕ, ◌+◌, ◌≤◌, List, [], ◌∷◌, ◌++◌, length, map, codes, ◌==◌, if◌then◌else◌, Result, Ok, Err, Option, Some, None, option_map, ⊤}
+use Rattle.std.specs.Prelude.{◌≡◌, ℕ, ◌+◌, ◌≤◌, List, [], ◌∷◌, ◌++◌, length, map, codes, ◌==◌, if◌then◌else◌, Result}
+use Rattle.std.specs.Prelude.{Ok, Err, Option, Some, None, option_map, ⊤}
 use Rattle.po_text.specs.declared.fault.Kind.TheVariants as kind
 use Rattle.po_text.specs.declared.fault.Spot.{Spot}
 use Rattle.po_text.specs.declared.fault.TextRefusal.{TextRefusal}
@@ -44,7 +45,9 @@ jumps_in line column o = map (λ l. record { line = line; column = column; label
 
 -- one more operation, whose label stands at this place
 unfoldable pub with_op : ℕ → ℕ → Open → Op → Result Open LineFault
-with_op line column u o = unless (decided u.ops o column) (record { name = u.name; ops = u.ops ++ o ∷ []; jumps = u.jumps ++ jumps_in line column o })
+with_op line column u o =
+    unless (decided u.ops o column)
+    (record { name = u.name; ops = u.ops ++ o ∷ []; jumps = u.jumps ++ jumps_in line column o })
 
 -- a line that begins with an operation's word
 unfoldable pub op_line : ℕ → Open → Key → List Placed → ℕ → Result Open LineFault

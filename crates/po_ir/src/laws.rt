@@ -2,7 +2,8 @@
 
 ghost use Rattle.po_ir.specs.Laws.{ReadsWhatIsWritten, ReadsPrinted};
 
-/// Lines are read as units exactly where they write these units, and the language allows them (docs/STACK.md, "Units").
+/// Lines are read as units exactly where they write these units, and the language allows them (docs/STACK.md,
+/// "Units").
 pub fn units_are_written()
     ensures { ReadsWhatIsWritten }
 {}

@@ -1,5 +1,5 @@
-//! Stack code: the units of a text. A text is read exactly, to its units or to its first fault; `docs/STACK.md` has the
-//! language. A line's operation, what the operations so far say of the next one, and the text are proved equal to
+//! Stack code: the units of a text. A text is read exactly, to its units or to its first fault; `docs/STACK.md` has
+//! the language. A line's operation, what the operations so far say of the next one, and the text are proved equal to
 //! definitions on lists, one behind the other.
 //!
 //! Its tests stand in `po_input_rows`.

@@ -14,10 +14,11 @@ use po_text::Kind;
 use std::alloc::Global;
 
 /// One more operation, whose label stands at this place.
-#[tactic(auto, unfolding(crate::specs::Reading::with_op), using(crate::proofs::Prefix::depth_next, crate::proofs::Prefix::ends_next, crate::proofs::Prefix::labels_next, crate::proofs::Prefix::args_next))]
+#[tactic(auto, unfolding(crate::specs::Reading::with_op), using(crate::proofs::Prefix::one_more_op))]
 fn add_op(alloc: Global, begun: &mut Begun, line: u32, column: u32, op: Op) -> Result<(), LineError>
     requires { reading.IsKept begun.old }
-    ensures gives { Gives (λ _. reading.shown begun.new) result (reading.with_op line column (reading.shown begun.old) op) }
+    ensures gives { Gives (λ _. reading.shown begun.new) result
+        (reading.with_op line column (reading.shown begun.old) op) }
     ensures kept { OnOk result (reading.IsKept begun.new) }
     ensures name { OnOk result (begun.new.name ≡ begun.old.name) }
 {
@@ -50,7 +51,8 @@ pub fn op_line(
     end: u32,
 ) -> Result<(), LineError>
     requires { reading.IsKept begun.old }
-    ensures gives { Gives (λ _. reading.shown begun.new) result (reading.op_line line (reading.shown begun.old) key (map seen words.now) end) }
+    ensures gives { Gives (λ _. reading.shown begun.new) result
+        (reading.op_line line (reading.shown begun.old) key (map seen words.now) end) }
     ensures kept { OnOk result (reading.IsKept begun.new) }
     ensures name { OnOk result (begun.new.name ≡ begun.old.name) }
 {

@@ -1,6 +1,7 @@
 //! The units of a text: one line behind the other, and what was read so far as a value.
 
-ghost use Rattle.std.specs.Prelude.{◌≡◌, ◌≤◌, ◌+◌, ◌<◌, ◌^◌, ◌++◌, ◌∷◌, [], map, length, All, List, IfOk, IfSome, OnOk};
+ghost use Rattle.std.specs.Prelude.{◌≡◌, ◌≤◌, ◌+◌, ◌<◌, ◌^◌, ◌++◌, ◌∷◌, [], map, length, All, List, IfOk, IfSome};
+ghost use Rattle.std.specs.Prelude.{OnOk};
 ghost use Rattle.std.specs.Option.{option_map};
 ghost use Rattle.po_lines.specs.Faults.{Gets, at_line};
 ghost use Rattle.po_lines.specs.Forms as forms;
@@ -67,10 +68,12 @@ fn only_word(line: u32, rest: &[Word]) -> Result<(), TextRefusal>
 }
 
 /// The unit inside ends.
-#[tactic(auto, unfolding(crate::specs::Reading::closed), using(crate::proofs::Prefix::map_next, crate::proofs::Prefix::append_none))]
+#[tactic(auto, unfolding(crate::specs::Reading::closed), using(crate::proofs::Prefix::one_more_unit))]
 fn close(state: &mut State, line: u32) -> Result<(), TextRefusal>
     requires { IsState state.old }
-    ensures gets { IfSome state.old.inside (λ begun. Gets (λ _. state_shown state.new) result (reading.closed line state.old.units (reading.shown begun))) }
+    ensures gets { IfSome state.old.inside
+        (λ begun.
+        Gets (λ _. state_shown state.new) result (reading.closed line state.old.units (reading.shown begun))) }
     ensures kept { OnOk result (IsState state.new) }
 {
     let Some(begun) = state.inside.take() else {
@@ -92,7 +95,10 @@ fn key_line(
     end: u32,
 ) -> Result<(), TextRefusal>
     requires { reading.IsKept begun.old }
-    ensures gets { (us : List Unit) → Gets (λ _. record { units = us; inside = Some (reading.shown begun.new) }) result (reading.key_line line us (reading.shown begun.old) (key_of_word first.now.bytes.now) (seen first.now) (map seen rest.now) end) }
+    ensures gets { (us : List Unit)
+        → Gets (λ _. record { units = us; inside = Some (reading.shown begun.new) }) result
+        (reading.key_line line us (reading.shown begun.old) (key_of_word first.now.bytes.now) (seen first.now)
+        (map seen rest.now) end) }
     ensures kept { OnOk result (reading.IsKept begun.new) }
     ensures name { OnOk result (begun.new.name ≡ begun.old.name) }
 {
@@ -114,7 +120,8 @@ fn outside_line(
 ) -> Result<(), TextRefusal>
     requires kept { IsState state.old }
     requires outside { state.old.inside ≡ None }
-    ensures gets { Gets (λ _. state_shown state.new) result (reading.outside_line line state.old.units (seen first.now) (map seen rest.now) end) }
+    ensures gets { Gets (λ _. state_shown state.new) result
+        (reading.outside_line line state.old.units (seen first.now) (map seen rest.now) end) }
     ensures kept { OnOk result (IsState state.new) }
 {
     if !same_text(first.bytes, b"unit") {
@@ -159,7 +166,9 @@ fn some_line(
     end: u32,
 ) -> Result<(), TextRefusal>
     requires { IsState state.old }
-    ensures gets { Gets (λ _. state_shown state.new) result (reading.some_line line state.old.units (option_map reading.shown state.old.inside) (seen first.now) (map seen rest.now) end) }
+    ensures gets { Gets (λ _. state_shown state.new) result
+        (reading.some_line line state.old.units (option_map reading.shown state.old.inside) (seen first.now)
+        (map seen rest.now) end) }
     ensures kept { OnOk result (IsState state.new) }
 {
     match &mut state.inside {
@@ -184,7 +193,8 @@ fn words_line(
     end: u32,
 ) -> Result<(), TextRefusal>
     requires { IsState state.old }
-    ensures gets { Gets (λ _. state_shown state.new) result (reading.words_line line (state_shown state.old) (map seen words.now) end) }
+    ensures gets { Gets (λ _. state_shown state.new) result
+        (reading.words_line line (state_shown state.old) (map seen words.now) end) }
     ensures kept { OnOk result (IsState state.new) }
 {
     match words {

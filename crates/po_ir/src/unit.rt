@@ -5,6 +5,7 @@ use po_word::{Bin, Rel, Un};
 use sqlite_items::Items;
 
 /// An operation on the stack (docs/STACK.md, "Operations").
+// ORDER: operations
 #[derive(Debug, Drop)]
 pub enum Op {
     /// `con N`: pushes a number.

@@ -1,5 +1,6 @@
 -- The first line of a text, and the lines behind it.
-use Rattle.std.proofs.Common.{◌≡◌, ℕ, ◌+◌, ◌≤◌, ◌<◌, List, [], ◌∷◌, Bool, true, false, refl, ap, ◌∙◌, subst, min, length, take, drop, arith}
+use Rattle.std.proofs.Common.{◌≡◌, ℕ, ◌+◌, ◌≤◌, ◌<◌, List, [], ◌∷◌, Bool, true, false, refl, ap, ◌∙◌, subst, min}
+use Rattle.std.proofs.Common.{length, take, drop, arith}
 use Rattle.std.specs.Prelude.{cond, nat_lt, ◌==◌}
 use Rattle.std.specs.List.{slice_split, onto_first, position, position_or_len}
 use Rattle.std.specs.Str.Lines.{strip_carriage_return}
@@ -11,7 +12,8 @@ use Rattle.std.specs.Prelude.{not, Some, None}
 use Rattle.std.specs.Option.{unwrap_or}
 use Rattle.po_lines.specs.Lines.{is_feed, lines_at, lines_from, line_until}
 
-whole_by : (b : Bool) (x : ℕ) (xs : List ℕ) → is_feed x ≡ b → (length xs ≤ position_or_len is_feed xs → slice_split is_feed xs ≡ xs ∷ [])
+whole_by : (b : Bool) (x : ℕ) (xs : List ℕ) → is_feed x ≡ b
+    → (length xs ≤ position_or_len is_feed xs → slice_split is_feed xs ≡ xs ∷ [])
     → length (x ∷ xs) ≤ position_or_len is_feed (x ∷ xs) → slice_split is_feed (x ∷ xs) ≡ (x ∷ xs) ∷ []
 whole_by true x xs e later h = let low = rw e at h in absurd (omega (arith, low))
 whole_by false x xs e later h = let low = rw e at h in rw (e, later (omega (arith, low))) refl
@@ -39,16 +41,21 @@ some_part [] = record { first = []; more = []; is = refl }
 some_part (x ∷ xs) = either_part (is_feed x) x (slice_split is_feed xs)
 
 two_parts : (n o : ℕ) (x : List ℕ) (parts : List (List ℕ)) → Some_part parts
-    → lines_at n o (x ∷ parts) ≡ record { number = n; bytes = strip_carriage_return x; after = o + length x + 1 } ∷ lines_at (n + 1) (o + length x + 1) parts
+    → lines_at n o (x ∷ parts)
+    ≡ record { number = n; bytes = strip_carriage_return x; after = o + length x + 1 }
+    ∷ lines_at (n + 1) (o + length x + 1) parts
 two_parts n o x parts p = rw p.is refl
 
 -- a line with its line feed
 fed : (n o : ℕ) (rest : List ℕ) (k : ℕ) → k ≡ position_or_len is_feed rest → k < length rest
-    → lines_from n o rest ≡ record { number = n; bytes = strip_carriage_return (take k rest); after = o + (k + 1) } ∷ lines_from (n + 1) (o + (k + 1)) (drop (k + 1) rest)
+    → lines_from n o rest
+    ≡ record { number = n; bytes = strip_carriage_return (take k rest); after = o + (k + 1) }
+    ∷ lines_from (n + 1) (o + (k + 1)) (drop (k + 1) rest)
 unfolding lines_from
 fed n o rest k e h =
     let parts : List (List ℕ) = slice_split is_feed (drop (k + 1) rest) in
-    let cut : slice_split is_feed rest ≡ take k rest ∷ parts = rw e (slice_split_first is_feed rest 0 (subst (λ (i : ℕ). i < length rest) e h)) in
+    let cut : slice_split is_feed rest ≡ take k rest ∷ parts =
+    rw e (slice_split_first is_feed rest 0 (subst (λ (i : ℕ). i < length rest) e h)) in
     let long : length (take k rest) ≡ k = rw e (length-prefix_len (λ x. not (is_feed x)) rest) in
     let far : o + k + 1 ≡ o + (k + 1) = omega arith in
     rw cut (two_parts n o (take k rest) parts (some_part (drop (k + 1) rest)) ∙ rw (long, far) refl)
@@ -56,7 +63,8 @@ fed n o rest k e h =
 not_zero : (n : ℕ) → 0 < n → (n == 0) ≡ false
 not_zero n h = grind (arith, nat_tests)
 
-one_part : (n o : ℕ) (x : List ℕ) → 0 < length x → lines_at n o (x ∷ []) ≡ record { number = n; bytes = x; after = o + length x } ∷ []
+one_part : (n o : ℕ) (x : List ℕ) → 0 < length x
+    → lines_at n o (x ∷ []) ≡ record { number = n; bytes = x; after = o + length x } ∷ []
 one_part n o x h = rw (not_zero (length x) h) refl
 
 -- the last line, which has none
@@ -73,8 +81,14 @@ pub ended : (n o : ℕ) (rest : List ℕ) → length rest ≡ 0 → lines_from n
 ended n o [] h = no_lines n o
 ended n o (x ∷ xs) h = absurd (omega (arith, h))
 
-first_by : (b : Bool) (n o : ℕ) (rest : List ℕ) (k : ℕ) → nat_lt k (length rest) ≡ b → k ≡ min (position_or_len is_feed rest) (length rest) → 0 < length rest
-    → lines_from n o rest ≡ record { number = n; bytes = cond b (strip_carriage_return (take k rest)) rest; after = o + min (length rest) (k + 1) } ∷ lines_from (n + 1) (o + min (length rest) (k + 1)) (drop (min (length rest) (k + 1)) rest)
+first_by : (b : Bool) (n o : ℕ) (rest : List ℕ) (k : ℕ) → nat_lt k (length rest) ≡ b
+    → k ≡ min (position_or_len is_feed rest) (length rest) → 0 < length rest
+    → lines_from n o rest
+    ≡ record {
+      number = n;
+      bytes = cond b (strip_carriage_return (take k rest)) rest;
+      after = o + min (length rest) (k + 1);
+    } ∷ lines_from (n + 1) (o + min (length rest) (k + 1)) (drop (min (length rest) (k + 1)) rest)
 first_by true n o rest k t e some =
     let within : k < length rest = grind (arith, nat_tests) in
     let here : k ≡ position_or_len is_feed rest = omega arith in
@@ -92,10 +106,15 @@ feed_by true p l e = grind (arith, nat_tests)
 feed_by false p l e = grind (arith, nat_tests)
 
 -- where the first line feed stands, or the length
-pub feed_is : (rest : List ℕ) → unwrap_or (position is_feed rest) (length rest) ≡ min (position_or_len is_feed rest) (length rest)
-feed_is rest = feed_by (nat_lt (position_or_len is_feed rest) (length rest)) (position_or_len is_feed rest) (length rest) refl
+pub feed_is : (rest : List ℕ)
+    → unwrap_or (position is_feed rest) (length rest) ≡ min (position_or_len is_feed rest) (length rest)
+feed_is rest =
+    feed_by (nat_lt (position_or_len is_feed rest) (length rest)) (position_or_len is_feed rest) (length rest) refl
 
 -- the first line, and the lines behind it
-pub first_line_is : (n o : ℕ) (rest : List ℕ) (k : ℕ) → k ≡ min (position_or_len is_feed rest) (length rest) → 0 < length rest
-    → lines_from n o rest ≡ record { number = n; bytes = line_until rest k; after = o + min (length rest) (k + 1) } ∷ lines_from (n + 1) (o + min (length rest) (k + 1)) (drop (min (length rest) (k + 1)) rest)
+pub first_line_is : (n o : ℕ) (rest : List ℕ) (k : ℕ) → k ≡ min (position_or_len is_feed rest) (length rest)
+    → 0 < length rest
+    → lines_from n o rest
+    ≡ record { number = n; bytes = line_until rest k; after = o + min (length rest) (k + 1) }
+    ∷ lines_from (n + 1) (o + min (length rest) (k + 1)) (drop (min (length rest) (k + 1)) rest)
 first_line_is n o rest k e some = first_by (nat_lt k (length rest)) n o rest k refl e some

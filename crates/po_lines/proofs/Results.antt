@@ -9,12 +9,14 @@ chosen true x y z e = inl (refl, e)
 chosen false x y z e = inr (refl, e)
 
 -- both parts have no fault
-pub bind_ok : {A B E : Type 0} (r : Result A E) (f : A → Result B E) (y : B) → (r >>= f) ≡ Ok y → (x : A) × (r ≡ Ok x) × (f x ≡ Ok y)
+pub bind_ok : {A B E : Type 0} (r : Result A E) (f : A → Result B E) (y : B) → (r >>= f) ≡ Ok y
+    → (x : A) × (r ≡ Ok x) × (f x ≡ Ok y)
 bind_ok (Ok x) f y e = (x, refl, e)
 bind_ok (Err s) f y e = cc
 
 -- the first part has a fault, or the second has it
-pub bind_err : {A B E : Type 0} (r : Result A E) (f : A → Result B E) (s : E) → (r >>= f) ≡ Err s → (r ≡ Err s) ⊎ ((x : A) × (r ≡ Ok x) × (f x ≡ Err s))
+pub bind_err : {A B E : Type 0} (r : Result A E) (f : A → Result B E) (s : E) → (r >>= f) ≡ Err s
+    → (r ≡ Err s) ⊎ ((x : A) × (r ≡ Ok x) × (f x ≡ Err s))
 bind_err (Ok x) f s e = inr (x, refl, e)
 bind_err (Err t) f s e = inl cc
 

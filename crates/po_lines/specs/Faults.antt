@@ -1,5 +1,5 @@
--- The value that a reader has to give, or the first fault, and what the code's answer says of it: it is the value or the
--- fault, unless memory was refused. A definition is written as a `do` over its parts: the first fault stays.
+-- The value that a reader has to give, or the first fault, and what the code's answer says of it: it is the value or
+-- the fault, unless memory was refused. A definition is written as a `do` over its parts: the first fault stays.
 use Rattle.std.specs.Prelude.{◌≡◌, ℕ, Result, Ok, Err, ⊤}
 use Rattle.po_text.specs.declared.fault.Kind.{Kind}
 use Rattle.po_text.specs.declared.fault.TextRefusal.{TextRefusal}

@@ -1,5 +1,6 @@
 -- What one word is read as, or the place and kind of its fault.
-use Rattle.std.specs.Prelude.{ℕ, ◌+◌, ◌&&◌, List, Bool, ℤ, pos, negsuc, int_le, unsigned_abs, if◌then◌else◌, Result, Ok, Err, Option, Some, None, ⊤, nat_eq}
+use Rattle.std.specs.Prelude.{ℕ, ◌+◌, ◌&&◌, List, Bool, ℤ, pos, negsuc, int_le, unsigned_abs, if◌then◌else◌, Result}
+use Rattle.std.specs.Prelude.{Ok, Err, Option, Some, None, ⊤, nat_eq}
 use Rattle.std.specs.List.{list_all}
 use Rattle.std.specs.Cmp.Lexicographic.{pointwise}
 use Rattle.po_word.specs.Words.{word_of}

@@ -1,6 +1,7 @@
 -- The lines of a text from a place on. A text is cut at its line feeds. An empty part behind the last line feed is no
 -- line, and a carriage return right before a line feed belongs to neither line.
-use Rattle.std.specs.Prelude.{◌≡◌, ℕ, ◌+◌, ◌==◌, Bool, List, [], ◌∷◌, length, take, drop, nat_lt, if◌then◌else◌, Option, Some, None}
+use Rattle.std.specs.Prelude.{◌≡◌, ℕ, ◌+◌, ◌==◌, Bool, List, [], ◌∷◌, length, take, drop, nat_lt, if◌then◌else◌}
+use Rattle.std.specs.Prelude.{Option, Some, None}
 use Rattle.std.specs.List.{slice_split}
 use Rattle.std.specs.Str.Lines.{strip_carriage_return}
 use Rattle.po_text.specs.declared.fault.Spot.{Spot}
@@ -21,9 +22,11 @@ is_feed byte = byte == 10
 -- the lines in the parts between line feeds, of which the first has this number and begins at this offset
 abbrev pub lines_at : ℕ → ℕ → List (List ℕ) → List Numbered
 lines_at number offset [] = []
-lines_at number offset (x ∷ []) = if length x == 0 then [] else record { number = number; bytes = x; after = offset + length x } ∷ []
+lines_at number offset (x ∷ []) =
+    if length x == 0 then [] else record { number = number; bytes = x; after = offset + length x } ∷ []
 lines_at number offset (x ∷ y ∷ more) =
-    record { number = number; bytes = strip_carriage_return x; after = offset + length x + 1 } ∷ lines_at (number + 1) (offset + length x + 1) (y ∷ more)
+    record { number = number; bytes = strip_carriage_return x; after = offset + length x + 1 }
+    ∷ lines_at (number + 1) (offset + length x + 1) (y ∷ more)
 
 -- the lines of these bytes
 unfoldable pub lines_from : ℕ → ℕ → List ℕ → List Numbered

@@ -14,7 +14,8 @@ use po_text::{Kind, Span, word_end};
 /// than 4,096 bytes is TooMany at column 4097, whatever its words are (docs/LANGUAGE.md, "Lines"). Takes no memory.
 #[tactic(auto, unfolding(crate::specs::Words::line_words, crate::specs::Words::first_words))]
 pub fn first_words<'a>(line: &'a [u8], room: &mut [Word<'a>]) -> Result<usize, LineFault>
-    ensures tells { Tells (λ count. map words.seen (take count room.new)) result (words.first_words (length room.old) line.now) }
+    ensures tells { Tells (λ count. map words.seen (take count room.new)) result
+        (words.first_words (length room.old) line.now) }
     ensures within { IfOk result (λ count. count ≤ length room.old) }
     ensures short { IfOk result (λ _. length line.now ≤ 4096) }
 {
@@ -51,7 +52,8 @@ fn keep_word<'a>(
     requires short { length line.now ≤ 4096 }
     requires within { end ≤ length line.now }
     requires free { count < length room.old }
-    ensures words { map words.seen (take result room.new) ≡ map words.seen (take count room.old) ++ map (words.word_at line.now) (word_between start end) }
+    ensures words { map words.seen (take result room.new)
+        ≡ map words.seen (take count room.old) ++ map (words.word_at line.now) (word_between start end) }
     ensures within { result ≤ length room.old }
 {
     if start < end {

@@ -1,5 +1,5 @@
-//! Forms of the words of a line, for the readers of lines. `end` is the column behind the line's last byte, where a line
-//! that ends too early is Word; a further word is Word at its first byte.
+//! Forms of the words of a line, for the readers of lines. `end` is the column behind the line's last byte, where a
+//! line that ends too early is Word; a further word is Word at its first byte.
 
 ghost use Rattle.std.specs.Prelude.{◌≡◌, ◌+◌, ◌≤◌, length, map};
 ghost use Rattle.po_lines.specs.Faults.{Gives, Tells};
@@ -86,8 +86,8 @@ pub fn rest_words<'w, 'a>(words: &'w [Word<'a>]) -> &'w [Word<'a>]
     }
 }
 
-/// One name, and no further word. A missing name is Word at the column `end`, a further word is Word at its first byte,
-/// and a word that is no name has the fault of `name`.
+/// One name, and no further word. A missing name is Word at the column `end`, a further word is Word at its first
+/// byte, and a word that is no name has the fault of `name`.
 #[tactic(auto, unfolding(crate::specs::Forms::name_alone))]
 pub fn name_alone(alloc: Global, words: &[Word], end: u32) -> Result<Name, LineError>
     ensures { Gives (λ n. n) result (forms.name_alone (map seen words.now) end) }

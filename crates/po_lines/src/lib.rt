@@ -1,6 +1,6 @@
 //! What every reader of a text stands on: its lines from a place on, the words of a line with their columns, names,
-//! numbers and keywords, and the first fault of a line and of a text. A reader is proved equal to a definition on lists
-//! that gives the value or the first fault; only want of memory is left open.
+//! numbers and keywords, and the first fault of a line and of a text. A reader is proved equal to a definition on
+//! lists that gives the value or the first fault; only want of memory is left open.
 //!
 //! Its tests stand in `po_base_rows`.
 #![tactic(auto)]

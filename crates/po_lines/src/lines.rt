@@ -31,8 +31,8 @@ impl<'a> Model for Lines<'a> {
 }
 
 impl<'a> Lines<'a> {
-    /// The lines of a text from a place on (docs/LANGUAGE.md, "Lines"). `at` lies in the text or at its end, and `at.line`
-    /// and the text's length come to less than 2^32. Takes no memory.
+    /// The lines of a text from a place on (docs/LANGUAGE.md, "Lines"). `at` lies in the text or at its end, and
+    /// `at.line` and the text's length come to less than 2^32. Takes no memory.
     pub fn behind(text: &'a [u8], at: Spot) -> Lines<'a>
         requires within { at.offset ≤ length text.now }
         requires counted { at.line + length text.now < 2 ^ 32 }
@@ -76,8 +76,8 @@ impl<'a> Lines<'a> {
     }
 }
 
-/// The refusal of a text whose lines are all read and that ends too early: Word, at column 1 of the line behind the last
-/// one (docs/PROGRAM.md, "Faults of the text").
+/// The refusal of a text whose lines are all read and that ends too early: Word, at column 1 of the line behind the
+/// last one (docs/PROGRAM.md, "Faults of the text").
 pub fn ended_early(lines: &Lines) -> TextRefusal
     ensures { result ≡ TextRefusal.BadText lines.now.line 1 Kind.Word }
 {

@@ -63,7 +63,8 @@ impl Names {
     #[tactic(auto, using(crate::proofs::NameSet::any_map, crate::proofs::NameSet::put_map))]
     pub fn insert(&mut self, alloc: Global, name: &[u8]) -> Result<bool, AllocError>
         ensures added { IfOk result (λ added. added ≡ not (has name.now self.old)) }
-        ensures names { OnOk result (self.new ≡ (if has name.now self.old then self.old else self.old ++ name.now ∷ [])) }
+        ensures names { OnOk result
+            (self.new ≡ (if has name.now self.old then self.old else self.old ++ name.now ∷ [])) }
     {
         let added = self.set.insert(Vec::from_slice(alloc, name)?)?;
         Ok(added)

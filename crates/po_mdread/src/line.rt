@@ -1,7 +1,7 @@
 //! What a line says, behind what was read so far. `end` is the column behind the line's last byte.
 
 ghost use Rattle.std.specs.Prelude.{◌≡◌, ◌∷◌, [], ◌++◌, ◌≤◌, ◌+◌, ◌<◌, length, map, All, IfOk};
-ghost use Rattle.po_lines.specs.Faults.{Gives};
+ghost use Rattle.po_lines.specs.Faults.{Gives, Tells};
 ghost use Rattle.po_lines.specs.Lines.{line_of};
 ghost use Rattle.po_lines.specs.Words.{seen};
 ghost use Rattle.po_model.specs.Entries.{IsEntry};
@@ -11,7 +11,9 @@ ghost use Rattle.po_mdread.specs.Reading.{IsState};
 use crate::names::{four_names, register_names, with_new};
 use crate::sofar::{Sofar, State};
 use po_entry::read_entry;
-use po_lines::{Line, LineError, Names, Word, fault_at, keyword, name_alone, no_more, same_text};
+use po_lines::{
+    Line, LineError, LineFault, Names, Word, fault_at, keyword, name_alone, no_more, same_text,
+};
 use po_model::Machine;
 use po_name::Name;
 use po_text::{Kind, Spot};
@@ -176,9 +178,9 @@ fn behind(line: &Line) -> Spot
 
 /// `end`, and no further word.
 #[tactic(auto, unfolding(crate::specs::Reading::end_line))]
-fn end_line(machine: Machine, line: &Line, rest: &[Word]) -> Result<Sofar, LineError>
+fn end_line(machine: Machine, line: &Line, rest: &[Word]) -> Result<Sofar, LineFault>
     requires { All IsEntry machine.entries }
-    ensures gives { Gives (λ s. s) result (reading.end_line machine (line_of line.now) (map seen rest.now)) }
+    ensures gives { Tells (λ s. s) result (reading.end_line machine (line_of line.now) (map seen rest.now)) }
     ensures names { IfOk result (λ s. reading.names_sofar s ≡ reading.names_sofar (Sofar.ToEntries machine)) }
     ensures entries { IfOk result (λ s. All IsEntry (reading.entries_sofar s)) }
 {
@@ -206,7 +208,7 @@ pub fn entry_line(
         return insn_line(alloc, machine, line);
     }
     if same_text(first.bytes, b"end") {
-        return end_line(machine, line, rest);
+        return Ok(end_line(machine, line, rest)?);
     }
     Err(fault_at(first.column, Kind::Word))
 }

@@ -1,11 +1,11 @@
 //! The names on a line. `end` is the column behind the line's last byte, where a line that ends too early is Word.
 
 ghost use Rattle.std.specs.Prelude.{◌≡◌, map, take, drop};
-ghost use Rattle.po_lines.specs.Faults.{Gives};
+ghost use Rattle.po_lines.specs.Faults.{Gives, Tells};
 ghost use Rattle.po_lines.specs.Words.{seen};
 ghost use Rattle.po_mdread.specs.NameLines as lines;
 
-use po_lines::{LineError, Names, Word, fault_at, first_word, name, no_more};
+use po_lines::{LineError, LineFault, Names, Word, fault_at, first_word, name, no_more};
 use po_name::Name;
 use po_text::Kind;
 use sqlite_items::Items;
@@ -28,11 +28,11 @@ fn names(alloc: Global, words: &[Word]) -> Result<Items<Name>, LineError>
 
 /// There have to be so many words.
 #[tactic(auto, unfolding(crate::specs::NameLines::at_least))]
-fn at_least(count: usize, words: &[Word], end: u32) -> Result<(), LineError>
-    ensures { Gives (λ _. tt) result (lines.at_least count (map seen words.now) end) }
+fn at_least(count: usize, words: &[Word], end: u32) -> Result<(), LineFault>
+    ensures { Tells (λ _. tt) result (lines.at_least count (map seen words.now) end) }
 {
     if words.len() < count {
-        Err(fault_at(end, Kind::Word))
+        Err(LineFault::at(end, Kind::Word))
     } else {
         Ok(())
     }
@@ -40,12 +40,12 @@ fn at_least(count: usize, words: &[Word], end: u32) -> Result<(), LineError>
 
 /// No word; the first one is too many.
 #[tactic(auto, unfolding(crate::specs::NameLines::none_past))]
-fn none_past(words: &[Word]) -> Result<(), LineError>
-    ensures { Gives (λ _. tt) result (lines.none_past (map seen words.now)) }
+fn none_past(words: &[Word]) -> Result<(), LineFault>
+    ensures { Tells (λ _. tt) result (lines.none_past (map seen words.now)) }
 {
     match words {
         [] => Ok(()),
-        [first, ..] => Err(fault_at(first.column, Kind::TooMany)),
+        [first, ..] => Err(LineFault::at(first.column, Kind::TooMany)),
     }
 }
 

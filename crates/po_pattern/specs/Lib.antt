@@ -4,4 +4,3 @@ pub mod Parts
 pub mod Terms
 pub mod Whole
 pub mod Readings
-pub mod Formed

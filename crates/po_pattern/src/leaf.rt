@@ -1,36 +1,26 @@
 //! Registers, symbols, labels and numbers as terms.
 
-ghost use Rattle.std.specs.Prelude.{◌≡◌, ◌<◌, take, IfOk};
+ghost use Rattle.std.specs.Prelude.{◌≡◌};
 ghost use Rattle.po_word.specs.Words.{word_of};
-ghost use Rattle.po_lines.specs.Faults.{Gives};
+ghost use Rattle.po_lines.specs.Faults.{Tells};
 ghost use Rattle.po_pattern.specs.Rests.{rest_of, read_of};
 ghost use Rattle.po_pattern.specs.Parts as parts;
-ghost use Rattle.po_model.specs.Entries.{IsPatReg};
 
 use crate::cursor::{Cursor, Parsed};
 use crate::numbers::number;
 use crate::operands::{OperandKind, Operands};
 use crate::places::{begins, behind, name_length};
 use crate::ranges::operand;
-use po_lines::{LineError, fault_at};
+use po_lines::LineFault;
 use po_model::{PatReg, PatTerm};
 use po_term::Reg;
 use po_text::Kind;
 
 /// A register: `%k`, or one of `fp`, `rv`, `arg0` to `arg3` (docs/DESCRIPTION.md, "Entries"). Anything else is Word
 /// at its first byte; a digit of another kind is ListForm there.
-pub fn register<'a>(cursor: Cursor<'a>, seen: Operands) -> Result<Parsed<'a, PatReg>, LineError>
-    ensures gives { Gives read_of result (parts.register (rest_of cursor.entry) seen) }
-    ensures formed { IfOk result (λ p. IsPatReg p.value) }
-{
-    let read = read_register(cursor, seen)?;
-    Ok(read)
-}
-
-/// A register, by its first byte.
 #[tactic(auto, unfolding(crate::specs::Parts::register))]
-fn read_register<'a>(cursor: Cursor<'a>, seen: Operands) -> Result<Parsed<'a, PatReg>, LineError>
-    ensures { Gives read_of result (parts.register (rest_of cursor.entry) seen) }
+pub fn register<'a>(cursor: Cursor<'a>, seen: Operands) -> Result<Parsed<'a, PatReg>, LineFault>
+    ensures { Tells read_of result (parts.register (rest_of cursor.entry) seen) }
 {
     if begins(cursor.bytes, b'%') {
         any_register(cursor, seen)
@@ -41,8 +31,8 @@ fn read_register<'a>(cursor: Cursor<'a>, seen: Operands) -> Result<Parsed<'a, Pa
 
 /// `%k`
 #[tactic(auto, unfolding(crate::specs::Parts::any_register))]
-pub fn any_register<'a>(cursor: Cursor<'a>, seen: Operands) -> Result<Parsed<'a, PatReg>, LineError>
-    ensures { Gives read_of result (parts.any_register (rest_of cursor.entry) seen) }
+pub fn any_register<'a>(cursor: Cursor<'a>, seen: Operands) -> Result<Parsed<'a, PatReg>, LineFault>
+    ensures { Tells read_of result (parts.any_register (rest_of cursor.entry) seen) }
 {
     let digit = operand(OperandKind::Register, cursor, seen)?;
     Ok(Parsed {
@@ -57,12 +47,12 @@ pub fn any_register<'a>(cursor: Cursor<'a>, seen: Operands) -> Result<Parsed<'a,
 pub fn fixed_register<'a>(
     cursor: Cursor<'a>,
     seen: Operands,
-) -> Result<Parsed<'a, PatReg>, LineError>
-    ensures { Gives read_of result (parts.fixed_register (rest_of cursor.entry) seen) }
+) -> Result<Parsed<'a, PatReg>, LineFault>
+    ensures { Tells read_of result (parts.fixed_register (rest_of cursor.entry) seen) }
 {
     let length = name_length(cursor.bytes);
     match fixed_of(&cursor.bytes[..length]) {
-        None => Err(fault_at(cursor.column, Kind::Word)),
+        None => Err(LineFault::at(cursor.column, Kind::Word)),
         Some(register) => Ok(Parsed {
             value: PatReg::Fixed(register),
             rest: behind(cursor, length),
@@ -89,9 +79,8 @@ fn fixed_of(name: &[u8]) -> Option<Reg>
 /// A symbol `&k`, by its digit, from 0 to 9 (docs/DESCRIPTION.md, "Entries"). Anything else is Word at its first
 /// byte; a digit of another kind is ListForm there.
 #[tactic(auto, unfolding(crate::specs::Parts::symbol))]
-pub fn symbol<'a>(cursor: Cursor<'a>, seen: Operands) -> Result<Parsed<'a, u8>, LineError>
-    ensures gives { Gives read_of result (parts.symbol (rest_of cursor.entry) seen) }
-    ensures digit { IfOk result (λ p. p.value < 10) }
+pub fn symbol<'a>(cursor: Cursor<'a>, seen: Operands) -> Result<Parsed<'a, u8>, LineFault>
+    ensures { Tells read_of result (parts.symbol (rest_of cursor.entry) seen) }
 {
     operand(OperandKind::Symbol, cursor, seen)
 }
@@ -99,9 +88,8 @@ pub fn symbol<'a>(cursor: Cursor<'a>, seen: Operands) -> Result<Parsed<'a, u8>, 
 /// A label `@k`, by its digit, from 0 to 9 (docs/DESCRIPTION.md, "Entries"). Anything else is Word at its first byte;
 /// a digit of another kind is ListForm there.
 #[tactic(auto, unfolding(crate::specs::Parts::label))]
-pub fn label<'a>(cursor: Cursor<'a>, seen: Operands) -> Result<Parsed<'a, u8>, LineError>
-    ensures gives { Gives read_of result (parts.label (rest_of cursor.entry) seen) }
-    ensures digit { IfOk result (λ p. p.value < 10) }
+pub fn label<'a>(cursor: Cursor<'a>, seen: Operands) -> Result<Parsed<'a, u8>, LineFault>
+    ensures { Tells read_of result (parts.label (rest_of cursor.entry) seen) }
 {
     operand(OperandKind::Label, cursor, seen)
 }
@@ -111,8 +99,8 @@ pub fn label<'a>(cursor: Cursor<'a>, seen: Operands) -> Result<Parsed<'a, u8>, L
 pub fn symbol_address<'a>(
     cursor: Cursor<'a>,
     seen: Operands,
-) -> Result<Parsed<'a, PatTerm>, LineError>
-    ensures { Gives read_of result (parts.symbol_address (rest_of cursor.entry) seen) }
+) -> Result<Parsed<'a, PatTerm>, LineFault>
+    ensures { Tells read_of result (parts.symbol_address (rest_of cursor.entry) seen) }
 {
     let digit = operand(OperandKind::Symbol, cursor, seen)?;
     Ok(Parsed {
@@ -124,8 +112,8 @@ pub fn symbol_address<'a>(
 
 /// A number in a term: the constant modulo 2^32.
 #[tactic(auto, unfolding(crate::specs::Parts::numeral))]
-pub fn numeral<'a>(cursor: Cursor<'a>, seen: Operands) -> Result<Parsed<'a, PatTerm>, LineError>
-    ensures { Gives read_of result (parts.numeral (rest_of cursor.entry) seen) }
+pub fn numeral<'a>(cursor: Cursor<'a>, seen: Operands) -> Result<Parsed<'a, PatTerm>, LineFault>
+    ensures { Tells read_of result (parts.numeral (rest_of cursor.entry) seen) }
 {
     let number = number(cursor, seen)?;
     Ok(Parsed {

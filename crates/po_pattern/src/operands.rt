@@ -57,7 +57,8 @@ pub fn may_be(kind: OperandKind, known: Option<OperandKind>) -> bool
     }
 }
 
-fn same_kind(kind: OperandKind, other: OperandKind) -> bool
+/// Whether two kinds are the same.
+pub fn same_kind(kind: OperandKind, other: OperandKind) -> bool
     ensures { result ≡ seen.same_kind kind other }
 {
     kind == other

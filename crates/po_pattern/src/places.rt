@@ -4,12 +4,12 @@ ghost use Rattle.std.specs.Prelude.{◌≡◌, ◌≤◌, ◌+◌, length};
 ghost use Rattle.std.specs.List.{prefix_len};
 ghost use Rattle.po_text.specs.Words.{is_blank};
 ghost use Rattle.po_name.specs.Names.{is_digit, is_name_byte};
-ghost use Rattle.po_lines.specs.Faults.{Gives};
+ghost use Rattle.po_lines.specs.Faults.{Tells};
 ghost use Rattle.po_pattern.specs.Rests as rests;
 ghost use Rattle.po_pattern.specs.Rests.{rest_of};
 
 use crate::cursor::Cursor;
-use po_lines::{LineError, fault_at};
+use po_lines::LineFault;
 use po_text::Kind;
 
 /// The beginning of a line, which has at most 4,096 bytes.
@@ -98,13 +98,13 @@ fn is_name_letter(byte: u8) -> bool
 
 /// This byte has to stand here; the place behind it. Another byte, or the line's end, is Word here.
 #[tactic(auto, unfolding(crate::specs::Rests::mark))]
-pub fn mark<'a>(cursor: Cursor<'a>, byte: u8) -> Result<Cursor<'a>, LineError>
-    ensures { Gives rest_of result (rests.mark byte (rest_of cursor.entry)) }
+pub fn mark<'a>(cursor: Cursor<'a>, byte: u8) -> Result<Cursor<'a>, LineFault>
+    ensures { Tells rest_of result (rests.mark byte (rest_of cursor.entry)) }
 {
     if begins(cursor.bytes, byte) {
         Ok(behind(cursor, 1))
     } else {
-        Err(fault_at(cursor.column, Kind::Word))
+        Err(LineFault::at(cursor.column, Kind::Word))
     }
 }
 

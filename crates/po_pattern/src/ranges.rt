@@ -1,7 +1,7 @@
 //! Operands with their digits: `%k`, `#k` with its range, `&k`, `@k`.
 
-ghost use Rattle.std.specs.Prelude.{◌≡◌, ◌≤◌, ◌<◌, ◌≤ℤ◌, length, IfOk, IfSome};
-ghost use Rattle.po_lines.specs.Faults.{Gives};
+ghost use Rattle.std.specs.Prelude.{◌≡◌, ◌≤◌, ◌<◌, length, IfOk, IfSome};
+ghost use Rattle.po_lines.specs.Faults.{Tells};
 ghost use Rattle.po_pattern.specs.Rests.{rest_of, read_of};
 ghost use Rattle.po_pattern.specs.Parts as parts;
 
@@ -9,7 +9,7 @@ use crate::cursor::{Cursor, Parsed};
 use crate::numbers::number;
 use crate::operands::{OperandKind, Operands, is_new, kind_of, may_be, with_operand};
 use crate::places::{begins, behind, is_digit_byte, mark, skip_blanks};
-use po_lines::{LineError, fault_at};
+use po_lines::LineFault;
 use po_model::{Bounds, PatTerm};
 use po_text::Kind;
 
@@ -50,12 +50,12 @@ pub fn operand<'a>(
     kind: OperandKind,
     cursor: Cursor<'a>,
     seen: Operands,
-) -> Result<Parsed<'a, u8>, LineError>
-    ensures gives { Gives read_of result (parts.operand kind (rest_of cursor.entry) seen) }
+) -> Result<Parsed<'a, u8>, LineFault>
+    ensures gives { Tells read_of result (parts.operand kind (rest_of cursor.entry) seen) }
     ensures digit { IfOk result (λ p. p.value < 10) }
 {
     match digit_behind(mark_of(kind), cursor.bytes) {
-        None => Err(fault_at(cursor.column, Kind::Word)),
+        None => Err(LineFault::at(cursor.column, Kind::Word)),
         Some(digit) => {
             if may_be(kind, kind_of(&seen, digit)) {
                 Ok(Parsed {
@@ -64,29 +64,28 @@ pub fn operand<'a>(
                     seen: with_operand(seen, kind, digit),
                 })
             } else {
-                Err(fault_at(cursor.column, Kind::ListForm))
+                Err(LineFault::at(cursor.column, Kind::ListForm))
             }
         }
     }
 }
 
 /// The lower end of a range isn't above the upper one; else Range at the column of the range.
-fn in_order(column: u32, low: i32, high: i32) -> Result<(), LineError>
-    ensures gives { Gives (λ _. tt) result (parts.in_order column low high) }
-    ensures order { IfOk result (λ _. low ≤ℤ high) }
+fn in_order(column: u32, low: i32, high: i32) -> Result<(), LineFault>
+    ensures { Tells (λ _. tt) result (parts.in_order column low high) }
 {
     if low <= high {
         Ok(())
     } else {
-        Err(fault_at(column, Kind::Range))
+        Err(LineFault::at(column, Kind::Range))
     }
 }
 
 /// A range `[lo,hi]`, its ends from -2147483648 to 2147483647. A lower end above the upper one is Range at the `[`,
 /// decided before the `]` is looked at.
 #[tactic(auto, unfolding(crate::specs::Parts::range))]
-fn range<'a>(cursor: Cursor<'a>, seen: Operands) -> Result<Parsed<'a, Option<Bounds>>, LineError>
-    ensures { Gives read_of result (parts.range (rest_of cursor.entry) seen) }
+fn range<'a>(cursor: Cursor<'a>, seen: Operands) -> Result<Parsed<'a, Option<Bounds>>, LineFault>
+    ensures { Tells read_of result (parts.range (rest_of cursor.entry) seen) }
 {
     let opened = mark(cursor, b'[')?;
     let low = number(skip_blanks(opened), seen)?;
@@ -112,15 +111,15 @@ fn range_behind<'a>(
     new: bool,
     cursor: Cursor<'a>,
     seen: Operands,
-) -> Result<Parsed<'a, Option<Bounds>>, LineError>
-    ensures { Gives read_of result (parts.range_behind column new (rest_of cursor.entry) seen) }
+) -> Result<Parsed<'a, Option<Bounds>>, LineFault>
+    ensures { Tells read_of result (parts.range_behind column new (rest_of cursor.entry) seen) }
 {
     let next = skip_blanks(cursor);
     if begins(next.bytes, b'[') {
         if new {
             range(next, seen)
         } else {
-            Err(fault_at(column, Kind::ListForm))
+            Err(LineFault::at(column, Kind::ListForm))
         }
     } else {
         Ok(Parsed {
@@ -133,8 +132,8 @@ fn range_behind<'a>(
 
 /// `#k` or `#k[lo,hi]`
 #[tactic(auto, unfolding(crate::specs::Parts::constant))]
-pub fn constant<'a>(cursor: Cursor<'a>, seen: Operands) -> Result<Parsed<'a, PatTerm>, LineError>
-    ensures { Gives read_of result (parts.constant (rest_of cursor.entry) seen) }
+pub fn constant<'a>(cursor: Cursor<'a>, seen: Operands) -> Result<Parsed<'a, PatTerm>, LineFault>
+    ensures { Tells read_of result (parts.constant (rest_of cursor.entry) seen) }
 {
     let digit = operand(OperandKind::Constant, cursor, seen)?;
     let new = is_new(kind_of(&seen, digit.value));

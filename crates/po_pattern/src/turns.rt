@@ -1,7 +1,7 @@
 //! One part of a term: what may stand where a term is wanted, and what may stand behind a whole part.
 
-ghost use Rattle.std.specs.Prelude.{◌≡◌, ◌≤◌, ◌<◌, length, IfOk, IfSome};
-ghost use Rattle.po_lines.specs.Faults.{Gives};
+ghost use Rattle.std.specs.Prelude.{◌≡◌};
+ghost use Rattle.po_lines.specs.Faults.{Gives, Tells};
 ghost use Rattle.po_pattern.specs.Rests.{rest_of, read_of};
 ghost use Rattle.po_pattern.specs.Terms as terms;
 
@@ -12,7 +12,7 @@ use crate::operands::Operands;
 use crate::part::{Frame, Part, Turn};
 use crate::places::{begins, behind, is_digit_byte, mark, name_length, skip_blanks};
 use crate::ranges::constant;
-use po_lines::{LineError, fault_at};
+use po_lines::{LineError, LineFault};
 use po_model::{PatReg, PatTerm};
 use po_text::Kind;
 use po_word::{Bin, Un};
@@ -50,8 +50,8 @@ fn marked_leaf<'a>(
     byte: u8,
     cursor: Cursor<'a>,
     seen: Operands,
-) -> Result<Parsed<'a, PatTerm>, LineError>
-    ensures { Gives read_of result (terms.marked_leaf byte (rest_of cursor.entry) seen) }
+) -> Result<Parsed<'a, PatTerm>, LineFault>
+    ensures { Tells read_of result (terms.marked_leaf byte (rest_of cursor.entry) seen) }
 {
     match byte {
         b'%' => {
@@ -88,8 +88,8 @@ fn bracket(frame: &Frame) -> u8
 
 /// A part that begins with a name, or a register by its name.
 #[tactic(auto, unfolding(crate::specs::Terms::named))]
-fn named<'a>(cursor: Cursor<'a>, seen: Operands) -> Result<Parsed<'a, Turn>, LineError>
-    ensures { Gives read_of result (terms.named (rest_of cursor.entry) seen) }
+fn named<'a>(cursor: Cursor<'a>, seen: Operands) -> Result<Parsed<'a, Turn>, LineFault>
+    ensures { Tells read_of result (terms.named (rest_of cursor.entry) seen) }
 {
     let length = name_length(cursor.bytes);
     match opening(&cursor.bytes[..length]) {
@@ -117,11 +117,11 @@ fn begins_leaf(byte: u8) -> bool
 
 /// What may stand where a term is wanted.
 #[tactic(auto, unfolding(crate::specs::Terms::wanted))]
-pub fn wanted<'a>(cursor: Cursor<'a>, seen: Operands) -> Result<Parsed<'a, Turn>, LineError>
-    ensures { Gives read_of result (terms.wanted (rest_of cursor.entry) seen) }
+pub fn wanted<'a>(cursor: Cursor<'a>, seen: Operands) -> Result<Parsed<'a, Turn>, LineFault>
+    ensures { Tells read_of result (terms.wanted (rest_of cursor.entry) seen) }
 {
     match cursor.bytes {
-        [] => Err(fault_at(cursor.column, Kind::Word)),
+        [] => Err(LineFault::at(cursor.column, Kind::Word)),
         [first, ..] => {
             if *first == b'(' {
                 Ok(Parsed {
@@ -186,11 +186,11 @@ fn operator<'a>(
     left: Option<Part>,
     cursor: Cursor<'a>,
     seen: Operands,
-) -> Result<Parsed<'a, Turn>, LineError>
-    ensures { Gives read_of result (terms.operator left (rest_of cursor.entry) seen) }
+) -> Result<Parsed<'a, Turn>, LineFault>
+    ensures { Tells read_of result (terms.operator left (rest_of cursor.entry) seen) }
 {
     match operator_of(cursor.bytes) {
-        None => Err(fault_at(cursor.column, Kind::Word)),
+        None => Err(LineFault::at(cursor.column, Kind::Word)),
         Some(op) => Ok(Parsed {
             value: Turn::Opens(Frame::Right(op, left)),
             rest: behind(cursor, operator_length(op)),
@@ -206,8 +206,8 @@ fn closed<'a>(
     part: Option<Part>,
     cursor: Cursor<'a>,
     seen: Operands,
-) -> Result<Parsed<'a, Turn>, LineError>
-    ensures { Gives read_of result (terms.closed byte part (rest_of cursor.entry) seen) }
+) -> Result<Parsed<'a, Turn>, LineFault>
+    ensures { Tells read_of result (terms.closed byte part (rest_of cursor.entry) seen) }
 {
     let rest = mark(cursor, byte)?;
     Ok(Parsed {
@@ -229,9 +229,12 @@ pub fn behind_whole<'a>(
     ensures { Gives read_of result (terms.behind_whole frame part (rest_of cursor.entry) seen) }
 {
     match frame {
-        Frame::Memory => closed(b']', memory_part(alloc, part)?, cursor, seen),
-        Frame::Unary(op) => closed(b')', unary_part(alloc, op, part)?, cursor, seen),
-        Frame::Left => operator(part, cursor, seen),
-        Frame::Right(op, left) => closed(b')', binary_part(alloc, op, left, part)?, cursor, seen),
+        Frame::Memory => Ok(closed(b']', memory_part(alloc, part)?, cursor, seen)?),
+        Frame::Unary(op) => Ok(closed(b')', unary_part(alloc, op, part)?, cursor, seen)?),
+        Frame::Left => Ok(operator(part, cursor, seen)?),
+        Frame::Right(op, left) => {
+            let whole = binary_part(alloc, op, left, part)?;
+            Ok(closed(b')', whole, cursor, seen)?)
+        }
     }
 }

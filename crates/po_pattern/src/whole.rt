@@ -1,11 +1,10 @@
 //! Whole terms. A term is read part by part, without recursion: what is open stands on a stack of frames.
 
-ghost use Rattle.std.specs.Prelude.{◌≡◌, ◌≤◌, ◌<◌, length, reverse, IfOk, IfSome};
+ghost use Rattle.std.specs.Prelude.{◌≡◌, reverse};
 ghost use Rattle.po_lines.specs.Faults.{Gives};
 ghost use Rattle.po_pattern.specs.Rests.{rest_of, read_of};
 ghost use Rattle.po_pattern.specs.Terms as terms;
 ghost use Rattle.po_pattern.specs.Readings.{reading_of};
-ghost use Rattle.po_pattern.specs.Formed.{IsKeptTerm};
 
 use crate::cursor::{Cursor, Parsed};
 use crate::frames::{none_open, pop_frame, with_frame};
@@ -26,22 +25,8 @@ use std::alloc::Global;
 /// The first fault from left to right is Word at a part that may not stand there, or at the line's end; Number at a
 /// number outside its bounds; Range at the `[` of a range whose lower end is greater than its upper one; ListForm at
 /// an operand whose digit has another kind, or that has a range though it was seen before.
-pub fn term<'a>(
-    alloc: Global,
-    cursor: Cursor<'a>,
-    seen: Operands,
-) -> Result<Parsed<'a, Option<PatTerm>>, LineError>
-    ensures gives { Gives read_of result (terms.term (rest_of cursor.entry) seen) }
-    ensures shorter { IfOk result (λ p. length p.rest.bytes.now < length cursor.entry.bytes.now) }
-    ensures formed { IfOk result (λ p. IsKeptTerm p.value) }
-{
-    let read = read_term(alloc, cursor, seen)?;
-    Ok(read)
-}
-
-/// A whole term, from its first part on.
 #[tactic(auto, unfolding(crate::specs::Terms::term))]
-fn read_term<'a>(
+pub fn term<'a>(
     alloc: Global,
     cursor: Cursor<'a>,
     seen: Operands,
@@ -155,22 +140,8 @@ fn tree_of(turn: Turn) -> Option<PatTerm>
 /// The address in `M[t]` (docs/DESCRIPTION.md, "Entries"). Where it is beyond the limits of a term its value is None.
 /// Anything else in the place of `M`, `[` or `]` is Word at its first byte, or at the line's end; the other faults are
 /// those of `term`.
-pub fn address<'a>(
-    alloc: Global,
-    cursor: Cursor<'a>,
-    seen: Operands,
-) -> Result<Parsed<'a, Option<PatTerm>>, LineError>
-    ensures gives { Gives read_of result (terms.address (rest_of cursor.entry) seen) }
-    ensures shorter { IfOk result (λ p. length p.rest.bytes.now < length cursor.entry.bytes.now) }
-    ensures formed { IfOk result (λ p. IsKeptTerm p.value) }
-{
-    let read = read_address(alloc, cursor, seen)?;
-    Ok(read)
-}
-
-/// The address between `M[` and `]`.
 #[tactic(auto, unfolding(crate::specs::Terms::address))]
-fn read_address<'a>(
+pub fn address<'a>(
     alloc: Global,
     cursor: Cursor<'a>,
     seen: Operands,

@@ -33,5 +33,7 @@ OnBreakOff result limit old new = Unit {0}
 
 -- more than so many bytes came, and this is the place of the first one past them
 abbrev pub OnTooLong : {T : Type 0} → Result T ReadRefusal → ℕ → Option (List ℕ) → Option (List ℕ) → Type 0
-OnTooLong (Err (TooLong line column)) limit old new = (bytes : List ℕ) × (limit < length bytes) × (old ≡ before_known bytes new) × ((line, column) ≡ place_behind (take limit bytes))
+OnTooLong (Err (TooLong line column)) limit old new =
+    (bytes : List ℕ) × (limit < length bytes) × (old ≡ before_known bytes new)
+    × ((line, column) ≡ place_behind (take limit bytes))
 OnTooLong result limit old new = Unit {0}

@@ -1,5 +1,6 @@
 -- The words of a line: what stands between spaces and tabs.
-use Rattle.std.specs.Prelude.{◌≡◌, ℕ, ◌+◌, ◌<◌, ◌≤◌, Bool, true, false, ◌==◌, ◌||◌, List, [], ◌∷◌, length, slice_index, if◌then◌else◌}
+use Rattle.std.specs.Prelude.{◌≡◌, ℕ, ◌+◌, ◌<◌, ◌≤◌, Bool, true, false, ◌==◌, ◌||◌, List, [], ◌∷◌, length, slice_index}
+use Rattle.std.specs.Prelude.{if◌then◌else◌}
 use Rattle.po_text.specs.declared.fault.Span.{Span}
 
 -- a space or a tab
@@ -16,7 +17,8 @@ with_byte at (word ∷ words) =
 -- the words of the bytes that stand from a place on
 abbrev pub words_from : ℕ → List ℕ → List Span
 words_from at [] = []
-words_from at (byte ∷ bytes) = if is_blank byte then words_from (at + 1) bytes else with_byte at (words_from (at + 1) bytes)
+words_from at (byte ∷ bytes) =
+    if is_blank byte then words_from (at + 1) bytes else with_byte at (words_from (at + 1) bytes)
 
 -- the words of a line
 abbrev pub words_of : List ℕ → List Span

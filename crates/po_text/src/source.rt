@@ -2,7 +2,8 @@
 //! often it has failed. No call changes whether `left` is told, and the count rises at a fault and at nothing else. By
 //! `calls` it says how often it was called.
 
-ghost use Rattle.std.specs.Prelude.{◌≡◌, ℕ, ◌+◌, ◌-◌, ◌<◌, ◌≤◌, ◌^◌, [], List, Option, length, take, IfOk, IfErr, IfSome};
+ghost use Rattle.std.specs.Prelude.{◌≡◌, ℕ, ◌+◌, ◌-◌, ◌<◌, ◌≤◌, ◌^◌, [], List, Option, length, take, IfOk, IfErr};
+ghost use Rattle.std.specs.Prelude.{IfSome};
 ghost use Rattle.po_text.specs.Causes.{Counts, before_known};
 ghost use Rattle.po_text.specs.Source.{Reads, GotCause, ReadCause, OnBreakOff, OnTooLong};
 ghost use Rattle.po_text.specs.Place.{place_behind, place_from};
@@ -45,8 +46,8 @@ pub trait Source {
 #[tactic(auto, using(crate::proofs::Known::before_two))]
 /// All bytes up to the end, of which there may be `limit`, a number below 2^32 - 1. `ReadFault` comes exactly where
 /// the source's faults rose, and `TooLong` exactly where more than `limit` bytes came, with the line and the column,
-/// both counted from 1, of the first byte past them; a line ends at its line feed. There are at most `limit` + 1 calls of
-/// the source, since each but the last takes a byte.
+/// both counted from 1, of the first byte past them; a line ends at its line feed. There are at most `limit` + 1 calls
+/// of the source, since each but the last takes a byte.
 pub fn read_all<S: Source>(
     alloc: Global,
     source: &mut S,

@@ -22,8 +22,8 @@ pub fn split_line(alloc: Global, line: &[u8]) -> Result<Vec<Span>, OutOfMemory>
     Ok(words)
 }
 
-/// Where the word that begins at this byte of a line ends: before the next blank, or at the end of the line. A word that
-/// begins at a blank ends there, with no byte (docs/LANGUAGE.md, "Lines").
+/// Where the word that begins at this byte of a line ends: before the next blank, or at the end of the line. A word
+/// that begins at a blank ends there, with no byte (docs/LANGUAGE.md, "Lines").
 pub fn word_end(line: &[u8], start: usize) -> usize
     requires { start < length line.now }
     ensures within { result ≤ length line.now }

@@ -13,5 +13,6 @@ pub words-preserved : goal.words-preserved
 words-preserved c = record {
   within = search rules;
   cut = rw c.keep_word-count.ensures.words
-      (next_cut c.args.line.now c.words.at c.word_end-end.result (map words.seen (take c.words.count c.words.room)) (words.words_in c.args.line.now) c.word_end-end.ensures.end c.words.invariant.cut);
+      (next_cut c.args.line.now c.words.at c.word_end-end.result (map words.seen (take c.words.count c.words.room))
+      (words.words_in c.args.line.now) c.word_end-end.ensures.end c.words.invariant.cut);
 }

@@ -7,7 +7,8 @@ use Rattle.po_lines.proofs.few.cut_words.Given as goal
 abbrev pub invariant-words : goal.invariant-words
 invariant-words l = record {
   within : l.count ≤ length l.room;
-  cut : map words.seen (take l.count l.room) ++ map (words.word_at l.line) (words_from l.at (drop l.at l.line)) ≡ words.words_in l.line;
+  cut : map words.seen (take l.count l.room) ++ map (words.word_at l.line) (words_from l.at (drop l.at l.line))
+      ≡ words.words_in l.line;
 }
 
 abbrev pub decreases-words : goal.decreases-words

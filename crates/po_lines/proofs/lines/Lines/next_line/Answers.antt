@@ -18,6 +18,14 @@ pub returns : goal.returns
 returns c =
     let rest : List ℕ = c.self.inside.rest.now in
     let some : 0 < length rest = grind (arith, nat_tests, c.if-is_empty.false, c.is_empty.ensures) in
-    let feed : c.unwrap_or-length.result ≡ min (position_or_len is_feed rest) (length rest) = c.unwrap_or-length.ensures ∙ rw c.feed_at.ensures (feed_is rest) in
-    let cut = first_line_is c.self.inside.line c.self.inside.offset rest c.unwrap_or-length.result feed some in
-    (sym c.self.view_is ∙ rw (c.first_line-bytes.ensures, c.min-taken.ensures, take_rest rest (min (length rest) (c.unwrap_or-length.result + 1))) (ap (λ (ls : List Numbered). record { line = c.self.inside.line; lines = ls }) cut), refl)
+    let feed : c.unwrap_or-length.result ≡ min (position_or_len is_feed rest) (length rest) =
+    c.unwrap_or-length.ensures ∙ rw c.feed_at.ensures (feed_is rest) in
+    let cut = first_line_is c.self.inside.line c.self.inside.offset rest c.unwrap_or-length.result feed some in (
+      sym c.self.view_is
+          ∙ rw (
+            c.first_line-bytes.ensures,
+            c.min-taken.ensures,
+            take_rest rest (min (length rest) (c.unwrap_or-length.result + 1)),
+          ) (ap (λ (ls : List Numbered). record { line = c.self.inside.line; lines = ls }) cut),
+      refl,
+    )

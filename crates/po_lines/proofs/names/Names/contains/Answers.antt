@@ -6,4 +6,7 @@ use Rattle.po_lines.proofs.NameSet.{any_map}
 use Rattle.po_lines.proofs.names.Names.contains.Goals as goal
 
 pub returns : goal.returns
-returns c = c.contains.ensures ∙ any_map (pointwise nat_eq c.args.name.now) (λ (v : Vec ℕ Global). v.items) c.self.inside.set.keys ∙ ap (has c.args.name.now) c.self.view_is
+returns c =
+    c.contains.ensures
+    ∙ any_map (pointwise nat_eq c.args.name.now) (λ (v : Vec ℕ Global). v.items) c.self.inside.set.keys
+    ∙ ap (has c.args.name.now) c.self.view_is

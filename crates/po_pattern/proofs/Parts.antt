@@ -27,9 +27,9 @@ use Rattle.po_model.specs.declared.machine.PatTerm.TheVariants as pat
 use Rattle.po_model.specs.Patterns.{PatTree, pattern_of}
 use Rattle.po_model.specs.Entries.{Place, place, OfNum, HasRange, has_range, IsPatReg, reg_places, tree_places}
 use Rattle.po_model.specs.Entries.{HasPatNumbers}
-use Rattle.po_entry.proofs.Layers.{reg_tree, num_tree, const_tree, addr_tree}
-use Rattle.po_entry.proofs.Told.{Tells, told_more}
-use Rattle.po_entry.proofs.Leaves.{Came, not_longer, mark_shorter, operand_took, operand_came, number_took}
+use Rattle.po_pattern.proofs.Layers.{reg_tree, num_tree, const_tree, addr_tree}
+use Rattle.po_pattern.proofs.Told.{Tells, told_more}
+use Rattle.po_pattern.proofs.Leaves.{Came, not_longer, mark_shorter, operand_took, operand_came, number_took}
 use Rattle.po_term.specs.Form.{IsFixed}
 
 -- a range
@@ -112,15 +112,15 @@ IsLeafAt t qs = IsLeafTree (pattern_of t) qs
 leaf_at : (t u : PatTree) (qs : List Place) → t ≡ u → IsLeafTree u qs → IsLeafTree t qs
 leaf_at t u qs e h = subst (λ (v : PatTree). IsLeafTree v qs) (sym e) h
 
-pub constant_came : (r : Rest) (seen : Operands) (x : Read PatTerm) (ps : List Place) → constant r seen ≡ Ok x
-    → Tells seen ps → Came IsLeafAt ps r x
+pub constant_came : (r : Rest) (seen : Operands) (x : Read PatTerm) → constant r seen ≡ Ok x
+    → Came IsLeafAt r seen x
 unfolding constant
-constant_came r seen x ps e told =
+constant_came r seen x e =
     let p = bind_ok (operand Constant r seen) _ x e in
     let q = bind_ok (range_behind r.column (is_new (kind_of seen p.0.value)) p.0.rest p.0.seen) _ x p.2 in
     let took = operand_took Constant r seen p.0 p.1 in
     let range = range_behind_took r.column (is_new (kind_of seen p.0.value)) p.0.rest p.0.seen q.0 q.1 in
-    subst (λ (y : Read PatTerm). Came IsLeafAt ps r y) (ok_is q.2) (record {
+    subst (λ (y : Read PatTerm). Came IsLeafAt r seen y) (ok_is q.2) (record {
       places = place p.0.value OfNum (has_range q.0.value) ∷ [];
       has = leaf_at _ _ _ (const_tree p.0.value q.0.value)
           (record {
@@ -132,19 +132,19 @@ constant_came r seen x ps e told =
               leaves = tt;
             };
           });
-      told = subst (λ (s : Operands). Tells s (ps ++ place p.0.value OfNum (has_range q.0.value) ∷ []))
+      told = λ ps told. subst (λ (s : Operands). Tells s (ps ++ place p.0.value OfNum (has_range q.0.value) ∷ []))
           (sym (range.noted ∙ took.noted))
           (told_more seen Constant p.0.value (has_range q.0.value) ps took.small took.may range.new told);
       shorter = omega (arith, took.shorter, range.short);
     })
 
-pub symbol_came : (r : Rest) (seen : Operands) (x : Read PatTerm) (ps : List Place) → symbol_address r seen ≡ Ok x
-    → Tells seen ps → Came IsLeafAt ps r x
+pub symbol_came : (r : Rest) (seen : Operands) (x : Read PatTerm) → symbol_address r seen ≡ Ok x
+    → Came IsLeafAt r seen x
 unfolding symbol_address
-symbol_came r seen x ps e told =
+symbol_came r seen x e =
     let p = bind_ok (operand Symbol r seen) _ x e in
-    let came = operand_came Symbol r seen p.0 ps p.1 told in
-    subst (λ (y : Read PatTerm). Came IsLeafAt ps r y) (ok_is p.2) (record {
+    let came = operand_came Symbol r seen p.0 p.1 in
+    subst (λ (y : Read PatTerm). Came IsLeafAt r seen y) (ok_is p.2) (record {
       places = came.places;
       has = leaf_at _ _ _ (addr_tree p.0.value) (record {
         is = came.has.is;
@@ -164,13 +164,12 @@ small_word : (z : ℤ) → int_le z (pos 2147483647) ≡ true → word_of z < 2 
 small_word (pos n) h = let low : n ≤ 2147483647 = leb-true n 2147483647 h in omega arith
 small_word (negsuc n) h = omega arith
 
-pub numeral_came : (r : Rest) (seen : Operands) (x : Read PatTerm) (ps : List Place) → numeral r seen ≡ Ok x
-    → Tells seen ps → Came IsLeafAt ps r x
+pub numeral_came : (r : Rest) (seen : Operands) (x : Read PatTerm) → numeral r seen ≡ Ok x → Came IsLeafAt r seen x
 unfolding numeral
-numeral_came r seen x ps e told =
+numeral_came r seen x e =
     let p = bind_ok (number r seen) _ x e in
     let took = number_took r seen p.0 p.1 in
-    subst (λ (y : Read PatTerm). Came IsLeafAt ps r y) (ok_is p.2) (record {
+    subst (λ (y : Read PatTerm). Came IsLeafAt r seen y) (ok_is p.2) (record {
       places = [];
       has = leaf_at _ _ _ (num_tree (word_of p.0.value))
           (record {
@@ -182,7 +181,7 @@ numeral_came r seen x ps e told =
               leaves = tt;
             };
           });
-      told = subst (λ (s : Operands). Tells s (ps ++ [])) (sym took.noted) (none_more seen ps told);
+      told = λ ps told. subst (λ (s : Operands). Tells s (ps ++ [])) (sym took.noted) (none_more seen ps told);
       shorter = took.shorter;
     })
 
@@ -192,13 +191,12 @@ pub record IsRegAt (x : PatReg) (qs : List Place) : Type 0 where
   pub is : qs ≡ reg_places x
   pub fine : IsPatReg x
 
-any_came : (r : Rest) (seen : Operands) (x : Read PatReg) (ps : List Place) → any_register r seen ≡ Ok x
-    → Tells seen ps → Came IsRegAt ps r x
+any_came : (r : Rest) (seen : Operands) (x : Read PatReg) → any_register r seen ≡ Ok x → Came IsRegAt r seen x
 unfolding any_register
-any_came r seen x ps e told =
+any_came r seen x e =
     let p = bind_ok (operand Register r seen) _ x e in
-    let came = operand_came Register r seen p.0 ps p.1 told in
-    subst (λ (y : Read PatReg). Came IsRegAt ps r y) (ok_is p.2) (record {
+    let came = operand_came Register r seen p.0 p.1 in
+    subst (λ (y : Read PatReg). Came IsRegAt r seen y) (ok_is p.2) (record {
       places = came.places;
       has = record { is = came.has.is; fine = came.has.small };
       told = came.told;
@@ -224,34 +222,32 @@ named zero bs r e = absurd (cc)
 named (suc n) [] r e = absurd (cc)
 named (suc n) (b ∷ bs) r e = (omega arith, omega arith)
 
-fixed_found : (r : Rest) (seen : Operands) (x : Read PatReg) (ps : List Place) (found : Option Reg)
-    → fixed_of (name_here r) ≡ found → fixed_with r seen found ≡ Ok x → Tells seen ps → Came IsRegAt ps r x
-fixed_found r seen x ps None h e told = absurd (not_ok e)
-fixed_found r seen x ps (Some s) h e told = let some = named (prefix_len is_name_byte r.bytes) r.bytes s h in
-    subst (λ (y : Read PatReg). Came IsRegAt ps r y) (ok_is e) (record {
+fixed_found : (r : Rest) (seen : Operands) (x : Read PatReg) (found : Option Reg) → fixed_of (name_here r) ≡ found
+    → fixed_with r seen found ≡ Ok x → Came IsRegAt r seen x
+fixed_found r seen x None h e = absurd (not_ok e)
+fixed_found r seen x (Some s) h e = let some = named (prefix_len is_name_byte r.bytes) r.bytes s h in
+    subst (λ (y : Read PatReg). Came IsRegAt r seen y) (ok_is e) (record {
       places = [];
       has = record { is = refl; fine = fixed_is (name_here r) s h };
-      told = none_more seen ps told;
+      told = none_more seen;
       shorter = simp length-drop (omega (arith, some.0, some.1));
     })
 
-pub fixed_came : (r : Rest) (seen : Operands) (x : Read PatReg) (ps : List Place) → fixed_register r seen ≡ Ok x
-    → Tells seen ps → Came IsRegAt ps r x
+pub fixed_came : (r : Rest) (seen : Operands) (x : Read PatReg) → fixed_register r seen ≡ Ok x → Came IsRegAt r seen x
 unfolding fixed_register
-fixed_came r seen x ps e told = fixed_found r seen x ps (fixed_of (name_here r)) refl e told
+fixed_came r seen x e = fixed_found r seen x (fixed_of (name_here r)) refl e
 
-pub register_came : (r : Rest) (seen : Operands) (x : Read PatReg) (ps : List Place) → register r seen ≡ Ok x
-    → Tells seen ps → Came IsRegAt ps r x
+pub register_came : (r : Rest) (seen : Operands) (x : Read PatReg) → register r seen ≡ Ok x → Came IsRegAt r seen x
 unfolding register
-register_came r seen x ps e told = elim (chosen (begins 37 r.bytes) _ _ _ e) [
-  | inl (h, is) ↦ any_came r seen x ps is told
-  | inr (h, is) ↦ fixed_came r seen x ps is told
+register_came r seen x e = elim (chosen (begins 37 r.bytes) _ _ _ e) [
+  | inl (h, is) ↦ any_came r seen x is
+  | inr (h, is) ↦ fixed_came r seen x is
 ]
 
 -- a register as a term
-pub register_leaf : (r : Rest) (x : Read PatReg) (ps : List Place) → Came IsRegAt ps r x → Came IsLeafAt ps r
+pub register_leaf : (r : Rest) (seen : Operands) (x : Read PatReg) → Came IsRegAt r seen x → Came IsLeafAt r seen
     (record { value = pat.Reg x.value; rest = x.rest; seen = x.seen })
-register_leaf r x ps came = record {
+register_leaf r seen x came = record {
   places = came.places;
   has = leaf_at _ _ _ (reg_tree x.value) (record {
     is = came.has.is;
@@ -263,6 +259,6 @@ register_leaf r x ps came = record {
   shorter = came.shorter;
 }
 
-pub any_leaf : (r : Rest) (seen : Operands) (x : Read PatReg) (ps : List Place) → any_register r seen ≡ Ok x
-    → Tells seen ps → Came IsLeafAt ps r (record { value = pat.Reg x.value; rest = x.rest; seen = x.seen })
-any_leaf r seen x ps e told = register_leaf r x ps (any_came r seen x ps e told)
+pub any_leaf : (r : Rest) (seen : Operands) (x : Read PatReg) → any_register r seen ≡ Ok x → Came IsLeafAt r seen
+    (record { value = pat.Reg x.value; rest = x.rest; seen = x.seen })
+any_leaf r seen x e = register_leaf r seen x (any_came r seen x e)

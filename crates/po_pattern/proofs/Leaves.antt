@@ -17,14 +17,25 @@ use Rattle.po_pattern.specs.Seen.{kind_of, with_operand, may_be}
 use Rattle.po_pattern.specs.Parts.{digit_behind, mark_of, operand_with, operand, number_with, number_at}
 use Rattle.po_pattern.specs.Parts.{number_length, number}
 use Rattle.po_model.specs.Entries.{Place, place}
-use Rattle.po_entry.proofs.Told.{Tells, sort_of, told_more}
+use Rattle.po_pattern.proofs.Told.{Tells, sort_of, told_more}
 
--- what was read of this form, with its places behind those before it
-pub record Came {T : Type 0} (Has : T → List Place → Type 0) (ps : List Place) (r : Rest) (x : Read T) : Type 0 where
+-- what was read of this form where so much was seen: its places, which stand behind those before it
+pub record Found {T : Type 0} (Has : T → List Place → Type 0) (before : Operands) (value : T) (after : Operands)
+    : Type 0 where
+  pub places : List Place
+  pub has : Has value places
+  pub told : (ps : List Place) → Tells before ps → Tells after (ps ++ places)
+
+-- the same, and a byte was taken
+pub record Came {T : Type 0} (Has : T → List Place → Type 0) (r : Rest) (seen : Operands) (x : Read T) : Type 0 where
   pub places : List Place
   pub has : Has x.value places
-  pub told : Tells x.seen (ps ++ places)
+  pub told : (ps : List Place) → Tells seen ps → Tells x.seen (ps ++ places)
   pub shorter : length x.rest.bytes < length r.bytes
+
+pub found_of : {T : Type 0} {Has : T → List Place → Type 0} {r : Rest} {seen : Operands} {x : Read T}
+    → Came Has r seen x → Found Has seen x.value x.seen
+found_of came = record { places = came.places; has = came.has; told = came.told }
 
 -- blanks and marks
 
@@ -87,12 +98,12 @@ pub record IsDigitAt (o : OperandKind) (k : ℕ) (ps : List Place) : Type 0 wher
   pub small : k < 10
   pub is : ps ≡ place k (sort_of o) false ∷ []
 
-pub operand_came : (o : OperandKind) (r : Rest) (seen : Operands) (x : Read ℕ) (ps : List Place) → operand o r seen
-    ≡ Ok x → Tells seen ps → Came (IsDigitAt o) ps r x
-operand_came o r seen x ps e t = let took = operand_took o r seen x e in record {
+pub operand_came : (o : OperandKind) (r : Rest) (seen : Operands) (x : Read ℕ) → operand o r seen ≡ Ok x
+    → Came (IsDigitAt o) r seen x
+operand_came o r seen x e = let took = operand_took o r seen x e in record {
   places = place x.value (sort_of o) false ∷ [];
   has = record { small = took.small; is = refl };
-  told = subst (λ (s : Operands). Tells s (ps ++ place x.value (sort_of o) false ∷ [])) (sym took.noted)
+  told = λ ps t. subst (λ (s : Operands). Tells s (ps ++ place x.value (sort_of o) false ∷ [])) (sym took.noted)
       (told_more seen o x.value false ps took.small took.may (λ h. cc) t);
   shorter = took.shorter;
 }

@@ -2,7 +2,7 @@
 -- outermost on; a part beyond the limits has some.
 use Rattle.std.proofs.Common.{◌≡◌, ℕ, ◌+◌, ◌<◌, ◌≤◌, ◌==◌, ◌&&◌, true, false, nat_le, max, List, [], ◌∷◌, ◌++◌}
 use Rattle.std.proofs.Common.{length, refl, sym, ap, ◌∙◌, subst, arith, zero, suc, Option, Some, None, Ok, ◌⊎◌, inl}
-use Rattle.std.proofs.Common.{inr, append_assoc, leb-true}
+use Rattle.std.proofs.Common.{inr, append_assoc, leb-true, Result, Err, IfOk}
 use Rattle.std.specs.Prelude.{cond, codes, ⊤}
 use Rattle.std.specs.List.{prefix_len}
 use Rattle.std.specs.Option.{option_map}
@@ -28,15 +28,16 @@ use Rattle.po_pattern.specs.Terms.{kept, memory_part, unary_part, binary_part, l
 use Rattle.po_pattern.specs.Terms.{named_with, named, begins_leaf, wanted_with, wanted, operator_of, operator_length}
 use Rattle.po_pattern.specs.Terms.{operator_with, operator, closed, behind_whole, Reading, whole_with, is_whole}
 use Rattle.po_pattern.specs.Terms.{step_with, step, steps, whole_of, term, address}
+use Rattle.po_pattern.specs.Whole.{EndsInTime}
 use Rattle.po_model.specs.declared.machine.PatTerm.{PatTerm}
 use Rattle.po_model.specs.declared.machine.PatTerm.TheVariants as pat
 use Rattle.po_model.specs.Patterns.{PatTree, pattern_of}
 use Rattle.po_model.specs.Entries.{Place, tree_places, IsPatTree, HasPatNumbers}
-use Rattle.po_entry.proofs.Told.{Tells}
-use Rattle.po_entry.proofs.Leaves.{Came, not_longer, mark_shorter}
-use Rattle.po_entry.proofs.Layers.{mem_tree, un_tree, bin_tree}
-use Rattle.po_entry.proofs.Parts.{IsLeafAt, constant_came, symbol_came, numeral_came, any_leaf, fixed_came}
-use Rattle.po_entry.proofs.Parts.{register_leaf, none_more}
+use Rattle.po_pattern.proofs.Told.{Tells}
+use Rattle.po_pattern.proofs.Leaves.{Found, Came, not_longer, mark_shorter}
+use Rattle.po_pattern.proofs.Layers.{mem_tree, un_tree, bin_tree}
+use Rattle.po_pattern.proofs.Parts.{IsLeafAt, constant_came, symbol_came, numeral_came, any_leaf, fixed_came}
+use Rattle.po_pattern.proofs.Parts.{register_leaf, none_more}
 
 -- a term within the limits, and its places
 pub record IsTreeAt (t : PatTree) (qs : List Place) : Type 0 where
@@ -124,8 +125,8 @@ binary_has o (Some p) (Some q) cs bs h g = kept_has (pat.Bin o p.term q.term)
 
 -- what may stand where a term is wanted
 
-leaf_turn : (r : Rest) (x : Read PatTerm) (ps : List Place) → Came IsLeafAt ps r x → Came TurnHas ps r (leaf x)
-leaf_turn r x ps came = record {
+leaf_turn : (r : Rest) (seen : Operands) (x : Read PatTerm) → Came IsLeafAt r seen x → Came TurnHas r seen (leaf x)
+leaf_turn r seen x came = record {
   places = came.places;
   has = record {
     size = sym came.has.size;
@@ -143,17 +144,17 @@ leaf_turn r x ps came = record {
   shorter = came.shorter;
 }
 
-marked_came : (byte : ℕ) (r : Rest) (seen : Operands) (x : Read PatTerm) (ps : List Place) → marked_leaf byte r seen
-    ≡ Ok x → Tells seen ps → Came IsLeafAt ps r x
+marked_came : (byte : ℕ) (r : Rest) (seen : Operands) (x : Read PatTerm) → marked_leaf byte r seen ≡ Ok x
+    → Came IsLeafAt r seen x
 unfolding marked_leaf
-marked_came byte r seen x ps e told = elim (chosen (byte == 37) _ _ _ e) [
+marked_came byte r seen x e = elim (chosen (byte == 37) _ _ _ e) [
   | inl (h, is) ↦ (let p = bind_ok (any_register r seen) _ x is in
-      subst (λ (y : Read PatTerm). Came IsLeafAt ps r y) (ok_is p.2) (any_leaf r seen p.0 ps p.1 told))
+      subst (λ (y : Read PatTerm). Came IsLeafAt r seen y) (ok_is p.2) (any_leaf r seen p.0 p.1))
   | inr (h, is) ↦ elim (chosen (byte == 35) _ _ _ is) [
-    | inl (g, at) ↦ constant_came r seen x ps at told
+    | inl (g, at) ↦ constant_came r seen x at
     | inr (g, at) ↦ elim (chosen (byte == 38) _ _ _ at) [
-      | inl (f, to) ↦ symbol_came r seen x ps to told
-      | inr (f, to) ↦ numeral_came r seen x ps to told
+      | inl (f, to) ↦ symbol_came r seen x to
+      | inr (f, to) ↦ numeral_came r seen x to
     ]
   ]
 ]
@@ -170,52 +171,45 @@ opened_empty name f e = elim (chosen (same name (codes "M")) _ _ _ e) [
   ]
 ]
 
-named_came : (r : Rest) (seen : Operands) (x : Read Turn) (ps : List Place) (found : Option Frame)
-    → opening (name_here r) ≡ found → named_with r seen found ≡ Ok x → Tells seen ps → Came TurnHas ps r x
-named_came r seen x ps None h e told =
+named_came : (r : Rest) (seen : Operands) (x : Read Turn) (found : Option Frame) → opening (name_here r) ≡ found
+    → named_with r seen found ≡ Ok x → Came TurnHas r seen x
+named_came r seen x None h e =
     let p = bind_ok (fixed_register r seen) _ x e in
-    subst (λ (y : Read Turn). Came TurnHas ps r y) (ok_is p.2)
-    (leaf_turn r _ ps (register_leaf r p.0 ps (fixed_came r seen p.0 ps p.1 told)))
-named_came r seen x ps (Some f) h e told =
+    subst (λ (y : Read Turn). Came TurnHas r seen y) (ok_is p.2)
+    (leaf_turn r seen _ (register_leaf r seen p.0 (fixed_came r seen p.0 p.1)))
+named_came r seen x (Some f) h e =
     let n = prefix_len is_name_byte r.bytes in
     let p = bind_ok (mark (bracket f) (skip_blanks (behind n r))) _ x e in
     let shorter : length p.0.bytes < length (skip_blanks (behind n r)).bytes =
     mark_shorter (bracket f) (skip_blanks (behind n r)) p.0 p.1 in
     let within : length (behind n r).bytes ≤ length r.bytes = simp length-drop (omega arith) in
-    subst (λ (y : Read Turn). Came TurnHas ps r y) (ok_is p.2) (record {
+    subst (λ (y : Read Turn). Came TurnHas r seen y) (ok_is p.2) (record {
       places = [];
       has = opened_empty (name_here r) f h;
-      told = none_more seen ps told;
+      told = none_more seen;
       shorter = omega (arith, shorter, within, not_longer (behind n r));
     })
 
-wanted_found : (r : Rest) (seen : Operands) (x : Read Turn) (ps : List Place) (bs : List ℕ) → r.bytes ≡ bs
-    → wanted_with r seen bs ≡ Ok x → Tells seen ps → Came TurnHas ps r x
+wanted_found : (r : Rest) (seen : Operands) (x : Read Turn) (bs : List ℕ) → r.bytes ≡ bs
+    → wanted_with r seen bs ≡ Ok x → Came TurnHas r seen x
 unfolding named
-wanted_found r seen x ps [] b e told = absurd (not_ok e)
-wanted_found r seen x ps (c ∷ bs) b e told =
+wanted_found r seen x [] b e = absurd (not_ok e)
+wanted_found r seen x (c ∷ bs) b e =
     let long : length r.bytes ≡ length (c ∷ bs) = ap length b in
     elim (chosen (c == 40) _ _ _ e) [
-      | inl (h, is) ↦ subst (λ (y : Read Turn). Came TurnHas ps r y) (ok_is is)
-          (record {
-            places = [];
-            has = refl;
-            told = none_more seen ps told;
-            shorter = simp length-drop
-                (omega (arith, long));
-          })
+      | inl (h, is) ↦ subst (λ (y : Read Turn). Came TurnHas r seen y) (ok_is is)
+          (record { places = []; has = refl; told = none_more seen; shorter = simp length-drop (omega (arith, long)) })
       | inr (h, is) ↦ elim (chosen (begins_leaf c) _ _ _ is) [
         | inl (g, at) ↦ (let p = bind_ok (marked_leaf c r seen) _ x at in
-            subst (λ (y : Read Turn). Came TurnHas ps r y) (ok_is p.2)
-            (leaf_turn r p.0 ps (marked_came c r seen p.0 ps p.1 told)))
-        | inr (g, at) ↦ named_came r seen x ps (opening (name_here r)) refl at told
+            subst (λ (y : Read Turn). Came TurnHas r seen y) (ok_is p.2)
+            (leaf_turn r seen p.0 (marked_came c r seen p.0 p.1)))
+        | inr (g, at) ↦ named_came r seen x (opening (name_here r)) refl at
       ]
     ]
 
-pub wanted_came : (r : Rest) (seen : Operands) (x : Read Turn) (ps : List Place) → wanted r seen ≡ Ok x
-    → Tells seen ps → Came TurnHas ps r x
+wanted_came : (r : Rest) (seen : Operands) (x : Read Turn) → wanted r seen ≡ Ok x → Came TurnHas r seen x
 unfolding wanted
-wanted_came r seen x ps e told = wanted_found r seen x ps r.bytes refl e told
+wanted_came r seen x e = wanted_found r seen x r.bytes refl e
 
 -- what may stand behind a whole part
 
@@ -273,79 +267,82 @@ behind_came (frame.Right o left) part r seen x bs qs e f h = closed_behind 41 (b
 
 -- one part more
 
-pub record Going (ps : List Place) (s : Reading) : Type 0 where
-  pub outer : List Place
-  pub inner : List Place
-  pub stack : StackHas s.frames outer
-  pub turn : TurnHas s.turn.value inner
-  pub told : Tells s.turn.seen (ps ++ (outer ++ inner))
+-- what was read since so much was seen: the places in the parts that are open, and those of the last part
+record Going (start : Operands) (s : Reading) : Type 0 where
+  outer : List Place
+  inner : List Place
+  stack : StackHas s.frames outer
+  turn : TurnHas s.turn.value inner
+  told : (ps : List Place) → Tells start ps → Tells s.turn.seen (ps ++ (outer ++ inner))
 
-pub record Stepped (ps : List Place) (s t : Reading) : Type 0 where
-  pub going : Going ps t
-  pub less : (is_whole s ≡ true) ⊎ (length t.turn.rest.bytes < length s.turn.rest.bytes)
+record Stepped (start : Operands) (s t : Reading) : Type 0 where
+  going : Going start t
+  less : (is_whole s ≡ true) ⊎ (length t.turn.rest.bytes < length s.turn.rest.bytes)
 
 abbrev at_turn : List Frame → Turn → Rest → Operands → Reading
 at_turn frames turn r seen = record { frames = frames; turn = record { value = turn; rest = r; seen = seen } }
 
-stepped : (ps : List Place) (frames : List Frame) (turn : Turn) (r : Rest) (seen : Operands) (t : Reading)
-    → step_with frames turn r seen ≡ Ok t → Going ps (at_turn frames turn r seen)
-    → Stepped ps (at_turn frames turn r seen) t
-stepped ps frames (Opens f) r seen t e g =
+stepped : (start : Operands) (frames : List Frame) (turn : Turn) (r : Rest) (seen : Operands) (t : Reading)
+    → step_with frames turn r seen ≡ Ok t → Going start (at_turn frames turn r seen)
+    → Stepped start (at_turn frames turn r seen) t
+stepped start frames (Opens f) r seen t e g =
     let p = bind_ok (wanted (skip_blanks r) seen) _ t e in
-    let came = wanted_came (skip_blanks r) seen p.0 (ps ++ (g.outer ++ g.inner)) p.1 g.told in
-    subst (λ (u : Reading). Stepped ps (at_turn frames (Opens f) r seen) u) (ok_is p.2) (record {
+    let came = wanted_came (skip_blanks r) seen p.0 p.1 in
+    subst (λ (u : Reading). Stepped start (at_turn frames (Opens f) r seen) u) (ok_is p.2) (record {
       going = record {
         outer = g.outer ++ g.inner;
         inner = came.places;
         stack = (g.outer, g.inner, g.stack, g.turn, refl);
         turn = came.has;
-        told = subst (λ (qs : List Place). Tells p.0.seen qs) (append_assoc ps (g.outer ++ g.inner) came.places)
-            came.told;
+        told = λ ps h. subst (λ (qs : List Place). Tells p.0.seen qs)
+            (append_assoc ps (g.outer ++ g.inner) came.places)
+            (came.told (ps ++ (g.outer ++ g.inner)) (g.told ps h));
       };
       less = inr (omega (arith, came.shorter, not_longer r));
     })
-stepped ps [] (Whole part) r seen t e g =
-    subst (λ (u : Reading). Stepped ps (at_turn [] (Whole part) r seen) u) (ok_is e) (record {
+stepped start [] (Whole part) r seen t e g =
+    subst (λ (u : Reading). Stepped start (at_turn [] (Whole part) r seen) u) (ok_is e) (record {
       going = record { outer = g.outer; inner = g.inner; stack = g.stack; turn = g.turn; told = g.told };
       less = inl refl;
     })
-stepped ps (f ∷ fs) (Whole part) r seen t e g =
+stepped start (f ∷ fs) (Whole part) r seen t e g =
     let p = bind_ok (behind_whole f part (skip_blanks r) seen) _ t e in
     let cs = g.stack.0 in
     let bs = g.stack.1 in
     let came = behind_came f part (skip_blanks r) seen p.0 bs g.inner p.1 g.stack.3 g.turn in
     let same : g.outer ++ g.inner ≡ cs ++ (bs ++ g.inner) = ap (λ (x : List Place). x ++ g.inner) g.stack.4
     ∙ append_assoc cs bs g.inner in
-    subst (λ (u : Reading). Stepped ps (at_turn (f ∷ fs) (Whole part) r seen) u) (ok_is p.2) (record {
+    subst (λ (u : Reading). Stepped start (at_turn (f ∷ fs) (Whole part) r seen) u) (ok_is p.2) (record {
       going = record {
         outer = cs;
         inner = bs ++ g.inner;
         stack = g.stack.2;
         turn = came.has;
-        told = subst (λ (s : Operands). Tells s (ps ++ (cs ++ (bs ++ g.inner)))) (sym came.noted)
-            (subst (λ (x : List Place). Tells seen (ps ++ x)) same g.told);
+        told = λ ps h. subst (λ (s : Operands). Tells s (ps ++ (cs ++ (bs ++ g.inner)))) (sym came.noted)
+            (subst (λ (x : List Place). Tells seen (ps ++ x)) same (g.told ps h));
       };
       less = inr (omega (arith, came.shorter, not_longer r));
     })
 
-one_step : (ps : List Place) (s t : Reading) → step s ≡ Ok t → Going ps s → Stepped ps s t
+one_step : (start : Operands) (s t : Reading) → step s ≡ Ok t → Going start s → Stepped start s t
 unfolding step
-one_step ps s t e g = stepped ps s.frames s.turn.value s.turn.rest s.turn.seen t e g
+one_step start s t e g = stepped start s.frames s.turn.value s.turn.rest s.turn.seen t e g
 
-pub record Ended (ps : List Place) (t : Reading) : Type 0 where
-  pub going : Going ps t
-  pub whole : is_whole t ≡ true
+record Ended (start : Operands) (t : Reading) : Type 0 where
+  going : Going start t
+  whole : is_whole t ≡ true
 
 -- each part takes a byte, so the term is whole behind as many parts as bytes were left
-ended_from : (ps : List Place) (n : ℕ) (s t : Reading) → steps n s ≡ Ok t → (length s.turn.rest.bytes < n)
-    ⊎ (is_whole s ≡ true) → Going ps s → Ended ps t
+ended_from : (start : Operands) (n : ℕ) (s t : Reading) → steps n s ≡ Ok t → (length s.turn.rest.bytes < n)
+    ⊎ (is_whole s ≡ true) → Going start s → Ended start t
 unfolding steps step
-ended_from ps zero s t e (inl h) g = absurd (omega (arith, h))
-ended_from ps zero s t e (inr h) g = subst (λ (u : Reading). Ended ps u) (ok_is e) (record { going = g; whole = h })
-ended_from ps (suc n) s t e h g =
+ended_from start zero s t e (inl h) g = absurd (omega (arith, h))
+ended_from start zero s t e (inr h) g = subst (λ (u : Reading). Ended start u) (ok_is e)
+    (record { going = g; whole = h })
+ended_from start (suc n) s t e h g =
     let p = bind_ok (step s) _ t e in
-    let next = one_step ps s p.0 p.1 g in
-    ended_from ps n p.0 t p.2 (left_over n s p.0 h (still_whole s p.0 p.1) next.less) next.going
+    let next = one_step start s p.0 p.1 g in
+    ended_from start n p.0 t p.2 (left_over n s p.0 h (still_whole s p.0 p.1) next.less) next.going
   where
     left_over : (n : ℕ) (s u : Reading) → (length s.turn.rest.bytes < suc n) ⊎ (is_whole s ≡ true)
         → (is_whole s ≡ true → is_whole u ≡ true)
@@ -374,37 +371,52 @@ part_term : (part : Option Part) (qs : List Place) → PartHas part qs → TermH
 part_term None qs h = tt
 part_term (Some p) qs h = h.tree
 
-whole_at : (ps : List Place) (frames : List Frame) (turn : Turn) (seen : Operands) (outer inner : List Place)
-    → whole_with frames turn ≡ true → StackHas frames outer → TurnHas turn inner
-    → Tells seen (ps ++ (outer ++ inner)) → TermHas (whole_of turn) inner × Tells seen (ps ++ inner)
-whole_at ps frames (Opens f) seen outer inner w s h t = absurd (cc)
-whole_at ps [] (Whole part) seen outer inner w s h t =
-    (part_term part inner h, subst (λ (qs : List Place). Tells seen (ps ++ (qs ++ inner))) s t)
-whole_at ps (f ∷ fs) (Whole part) seen outer inner w s h t = absurd (cc)
+whole_at : (start : Operands) (frames : List Frame) (turn : Turn) (r : Rest) (seen : Operands)
+    → whole_with frames turn ≡ true → Going start (at_turn frames turn r seen)
+    → Found TermHas start (whole_of turn) seen
+whole_at start frames (Opens f) r seen w g = absurd (cc)
+whole_at start [] (Whole part) r seen w g = record {
+  places = g.inner;
+  has = part_term part g.inner g.turn;
+  told = λ ps h. subst (λ (qs : List Place). Tells seen (ps ++ (qs ++ g.inner))) g.stack (g.told ps h);
+}
+whole_at start (f ∷ fs) (Whole part) r seen w g = absurd (cc)
 
-pub term_came : (r : Rest) (seen : Operands) (x : Read (Option PatTerm)) (ps : List Place) → term r seen ≡ Ok x
-    → Tells seen ps → (qs : List Place) × TermHas x.value qs × Tells x.seen (ps ++ qs)
+-- behind the first part and as many more as bytes are left
+read_whole : (r : Rest) (seen : Operands) (first : Read Turn) (t : Reading) → wanted (skip_blanks r) seen ≡ Ok first
+    → steps (length r.bytes) (record { frames = []; turn = first }) ≡ Ok t → Ended seen t
+read_whole r seen first t e h =
+    let came = wanted_came (skip_blanks r) seen first e in
+    ended_from seen (length r.bytes) (record { frames = []; turn = first }) t h
+    (inl (omega (arith, came.shorter, not_longer r)))
+    (record { outer = []; inner = came.places; stack = refl; turn = came.has; told = came.told })
+
+where_ok : {A E : Type 0} (P : A → Type 0) (m : Result A E) → ((x : A) → m ≡ Ok x → P x) → IfOk m P
+where_ok P (Ok x) f = f x refl
+where_ok P (Err e) f = tt
+
+pub term_ends : (r : Rest) (seen : Operands) → EndsInTime r seen
+term_ends r seen first e = where_ok (λ s. is_whole s ≡ true)
+    (steps (length r.bytes) (record { frames = []; turn = first })) (λ t h. (read_whole r seen first t e h).whole)
+
+pub term_came : (r : Rest) (seen : Operands) (x : Read (Option PatTerm)) → term r seen ≡ Ok x
+    → Found TermHas seen x.value x.seen
 unfolding term
-term_came r seen x ps e told =
+term_came r seen x e =
     let p = bind_ok (wanted (skip_blanks r) seen) _ x e in
     let q = bind_ok (steps (length r.bytes) (record { frames = []; turn = p.0 })) _ x p.2 in
-    let came = wanted_came (skip_blanks r) seen p.0 ps p.1 told in
-    let ended = ended_from ps (length r.bytes) (record { frames = []; turn = p.0 }) q.0 q.1
-    (inl (omega (arith, came.shorter, not_longer r)))
-    (record { outer = []; inner = came.places; stack = refl; turn = came.has; told = came.told }) in
-    let last = whole_at ps q.0.frames q.0.turn.value q.0.turn.seen ended.going.outer ended.going.inner ended.whole
-    ended.going.stack ended.going.turn ended.going.told in
-    subst (λ (y : Read (Option PatTerm)). (qs : List Place) × TermHas y.value qs × Tells y.seen (ps ++ qs))
-    (ok_is q.2) (ended.going.inner, last.0, last.1)
+    let ended = read_whole r seen p.0 q.0 p.1 q.1 in
+    subst (λ (y : Read (Option PatTerm)). Found TermHas seen y.value y.seen) (ok_is q.2)
+    (whole_at seen q.0.frames q.0.turn.value q.0.turn.rest q.0.turn.seen ended.whole ended.going)
 
-pub address_came : (r : Rest) (seen : Operands) (x : Read (Option PatTerm)) (ps : List Place) → address r seen ≡ Ok x
-    → Tells seen ps → (qs : List Place) × TermHas x.value qs × Tells x.seen (ps ++ qs)
+pub address_came : (r : Rest) (seen : Operands) (x : Read (Option PatTerm)) → address r seen ≡ Ok x
+    → Found TermHas seen x.value x.seen
 unfolding address
-address_came r seen x ps e told = elim (chosen (same (name_here r) (codes "M")) _ _ _ e) [
+address_came r seen x e = elim (chosen (same (name_here r) (codes "M")) _ _ _ e) [
   | inl (h, is) ↦ (let p = bind_ok (mark 91 (skip_blanks (behind (prefix_len is_name_byte r.bytes) r))) _ x is in
       let q = bind_ok (term p.0 seen) _ x p.2 in
       let s = bind_ok (mark 93 (skip_blanks q.0.rest)) _ x q.2 in
-      subst (λ (y : Read (Option PatTerm)). (qs : List Place) × TermHas y.value qs × Tells y.seen (ps ++ qs))
-      (ok_is s.2) (term_came p.0 seen q.0 ps q.1 told))
+      subst (λ (y : Read (Option PatTerm)). Found TermHas seen y.value y.seen) (ok_is s.2)
+      (term_came p.0 seen q.0 q.1))
   | inr (h, is) ↦ absurd (not_ok is)
 ]
