@@ -136,7 +136,8 @@ module _ (at : ℕ → ℕ) (s t : State) where
           (value_placed y (holds_right (term_reads x) (term_reads y) h))
 
       -- the same word stands at each address behind both
-      pub memory_placed : (x : PlainInstr) → HoldsWhere (reads x) → (a : ℕ) → new_memory s (store_of x) a ≡ new_memory t
+      pub memory_placed : (x : PlainInstr) → HoldsWhere (reads x) → (a : ℕ)
+          → new_memory s (store_of x) a ≡ new_memory t
           (store_of (placed_instr at x)) a
       memory_placed [] h a = memory a
       memory_placed (SetTo r u ∷ ms) h a = memory_placed ms (later_reads (SetTo r u) ms h) a
@@ -182,7 +183,8 @@ module _ (at : ℕ → ℕ) (s t : State) where
             w (holds_right (term_reads u) (term_reads w) h),
       ) refl
       ending_placed (CallOf f n) ms h =
-          ap (λ ws. Some (Called f ws)) (arguments_same n 0 (λ j l. holds_left (is_arg_of n) (is_reg Fp) h (Reg (Arg j))
+          ap (λ ws. Some (Called f ws)) (arguments_same n 0 (
+          λ j l. holds_left (is_arg_of n) (is_reg Fp) h (Reg (Arg j))
           (le-leb (suc j) n (omega arith))))
       ending_placed Return ms h = ap (λ a. Some (Returned a)) (h (Reg Rv) refl)
 

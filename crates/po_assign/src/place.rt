@@ -35,7 +35,8 @@ fn starting_at(spans: &[Span], point: u32) -> u32
 /// The lowest machine register whose last span ended before a point.
 fn lowest_free(ends: &[u32], point: u32) -> Option<usize>
     ensures { MatchOption result ((k : ℕ) → k < length ends.now → point ≤ slice_index ends.now k) (λ r.
-        (r < length ends.now) × (slice_index ends.now r < point) × ((k : ℕ) → k < r → point ≤ slice_index ends.now k)) }
+        (r < length ends.now) × (slice_index ends.now r < point)
+        × ((k : ℕ) → k < r → point ≤ slice_index ends.now k)) }
 {
     ends.iter().position(|end| *end < point)
 }

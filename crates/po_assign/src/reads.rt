@@ -50,7 +50,8 @@ fn note_term(last: &mut Vec<u32>, point: u32, t: &Term) -> Result<(), OutOfMemor
 fn note_two(last: &mut Vec<u32>, point: u32, x: &Term, y: &Term) -> Result<(), OutOfMemory>
     ensures { OnOk result ((v : ℕ) →
         read_at last.new.items v ≡
-        (if term_reads (tree_of x.now) (RegVar (Virt v)) || term_reads (tree_of y.now) (RegVar (Virt v)) then point else read_at last.old.items v)) }
+        (if term_reads (tree_of x.now) (RegVar (Virt v)) || term_reads (tree_of y.now) (RegVar (Virt v)) then point
+        else read_at last.old.items v)) }
 {
     note_term(last, point, x)?;
     note_term(last, point, y)

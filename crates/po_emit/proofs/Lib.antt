@@ -3,3 +3,4 @@ pub mod Flags
 pub mod Operands
 pub mod Turns
 pub mod Starts
+pub mod EntryLines

@@ -1,5 +1,6 @@
 -- What stood in a list before is still its start.
-use Rattle.std.proofs.Common.{◌≡◌, ◌≤◌, ℕ, List, ◌++◌, length, take, sym, ap, ◌∙◌, arith, length-append, length-take, take_all}
+use Rattle.std.proofs.Common.{◌≡◌, ◌≤◌, ℕ, List, ◌++◌, length, take, sym, ap, ◌∙◌, arith, length-append, length-take}
+use Rattle.std.proofs.Common.{take_all}
 use Rattle.std.proofs.lemmas.List.{take-append-le, take-take}
 use Rattle.std.specs.Io.{StartsWith}
 
@@ -10,7 +11,8 @@ starts_same xs now e = rw e (take_all (length xs) xs (omega arith))
 pub starts_less : (xs more mid now : List ℕ) → mid ≡ xs ++ more → StartsWith now mid → StartsWith now xs
 starts_less xs more mid now e h =
     let shorter : length xs ≤ length mid = omega (arith, ap length e, length-append xs more) in
-    sym (take-take (length xs) (length mid) now shorter) ∙ ap (take (length xs)) (h ∙ e) ∙ take-append-le (length xs) xs more (omega arith)
+    sym (take-take (length xs) (length mid) now shorter) ∙ ap (take (length xs)) (h ∙ e)
+    ∙ take-append-le (length xs) xs more (omega arith)
     ∙ take_all (length xs) xs (omega arith)
 
 -- more is added at the end

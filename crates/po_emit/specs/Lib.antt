@@ -1,2 +1,3 @@
 pub mod Regs
 pub mod Texts
+pub mod Templates

@@ -16,6 +16,14 @@ use Rattle.po_recog.specs.declared.answer.Operand.TheVariants.{Reg, Num, Label, 
 abbrev pub slot_at : List (Option Operand) → ℕ → Option Operand
 slot_at slots k = unwrap_or (slice_get slots k) None
 
+-- a piece of a template, where an operand's text is told by its digit
+abbrev pub piece_text : (ℕ → List ℕ) → Piece → List ℕ
+piece_text text (piece.Byte b) = b ∷ []
+piece_text text (piece.Reg k) = text k
+piece_text text (piece.Num k) = text k
+piece_text text (piece.Label k) = text k
+piece_text text (piece.Sym k) = text k
+
 module _ (m : Machine) (at : ℕ → ℕ) (u : PlainUnit) where
   abbrev pub operand_text : Option Operand → List ℕ
   operand_text None = []
@@ -24,16 +32,13 @@ module _ (m : Machine) (at : ℕ → ℕ) (u : PlainUnit) where
   operand_text (Some (Label l)) = label_text u l
   operand_text (Some (Sym s)) = name_at u.syms s.0
 
-  abbrev pub piece_text : List (Option Operand) → Piece → List ℕ
-  piece_text slots (piece.Byte b) = b ∷ []
-  piece_text slots (piece.Reg k) = operand_text (slot_at slots k)
-  piece_text slots (piece.Num k) = operand_text (slot_at slots k)
-  piece_text slots (piece.Label k) = operand_text (slot_at slots k)
-  piece_text slots (piece.Sym k) = operand_text (slot_at slots k)
+  -- by its digit
+  abbrev pub digit_text : List (Option Operand) → ℕ → List ℕ
+  digit_text slots k = operand_text (slot_at slots k)
 
   -- a template with these operands
   abbrev pub filled : List (Option Operand) → List Piece → List ℕ
-  filled slots ps = flat_map (piece_text slots) ps
+  filled slots ps = flat_map (piece_text (digit_text slots)) ps
 
   -- with the template of an entry that may be there
   abbrev pub filled_from : List (Option Operand) → Option Entry → List ℕ

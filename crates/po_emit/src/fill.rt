@@ -1,13 +1,15 @@
-//! Templates with their operands filled in.
+//! The lines of entries with their operands filled in.
 ghost use Rattle.std.specs.Prelude.{◌≡◌, ◌++◌, ◌∷◌, OnOk, OnErr};
 ghost use Rattle.std.specs.Io.{StartsWith};
 ghost use Rattle.po_model.specs.UnitCodes.{unit_of};
 ghost use Rattle.po_emit.specs.Regs.{machine_at};
-ghost use Rattle.po_emit.specs.Texts.{slot_at, operand_text, piece_text, filled};
+ghost use Rattle.po_emit.specs.Texts.{slot_at, operand_text, digit_text};
+ghost use Rattle.po_emit.specs.Templates.{text_behind, part_text, line_text};
 
 use crate::names::{name_at, push_label, register_name};
+use crate::templates::{Line, Part};
 use itoa::Buffer;
-use po_model::{Machine, Piece, UnitCode};
+use po_model::{Machine, UnitCode};
 use po_recog::Operand;
 use po_word::OutOfMemory;
 
@@ -18,8 +20,8 @@ fn slot_at(slots: &[Option<Operand>], k: u8) -> Option<Operand>
     slots.get(usize::from(k)).copied().unwrap_or(None)
 }
 
-/// Writes what an operand stands for: a register by its name, a constant in decimal by its signed view, a label as `NAME.LABEL`, a
-/// symbol by its name.
+/// Writes what an operand stands for: a register by its name, a constant in decimal by its signed view, a label as
+/// `NAME.LABEL`, a symbol by its name.
 fn push_operand(
     m: &Machine,
     regs: &[u32],
@@ -27,7 +29,8 @@ fn push_operand(
     operand: Option<Operand>,
     out: &mut Vec<u8>,
 ) -> Result<(), OutOfMemory>
-    ensures ok { OnOk result (out.new.items ≡ out.old.items ++ operand_text m.now (machine_at regs.now) (unit_of u.now) operand) }
+    ensures ok { OnOk result (out.new.items
+        ≡ out.old.items ++ operand_text m.now (machine_at regs.now) (unit_of u.now) operand) }
     ensures err { OnErr result (StartsWith out.new.items out.old.items) }
 {
     match operand {
@@ -42,44 +45,41 @@ fn push_operand(
     Ok(())
 }
 
-/// Writes a part of a template.
-fn push_piece(
+/// Writes a part of a line.
+fn push_part(
     m: &Machine,
     regs: &[u32],
     u: &UnitCode,
     slots: &[Option<Operand>],
-    piece: Piece,
+    part: &Part,
     out: &mut Vec<u8>,
 ) -> Result<(), OutOfMemory>
-    ensures ok { OnOk result (out.new.items ≡ out.old.items ++ piece_text m.now (machine_at regs.now) (unit_of u.now) slots.now piece) }
+    ensures ok { OnOk result (out.new.items
+        ≡ out.old.items ++ part_text (digit_text m.now (machine_at regs.now) (unit_of u.now) slots.now) part.now) }
     ensures err { OnErr result (StartsWith out.new.items out.old.items) }
 {
-    match piece {
-        Piece::Byte(b) => {
-            out.push(b)?;
-            Ok(())
-        }
-        Piece::Reg(k) => push_operand(m, regs, u, slot_at(slots, k), out),
-        Piece::Num(k) => push_operand(m, regs, u, slot_at(slots, k), out),
-        Piece::Label(k) => push_operand(m, regs, u, slot_at(slots, k), out),
-        Piece::Sym(k) => push_operand(m, regs, u, slot_at(slots, k), out),
+    out.extend_from_slice(&part.bytes)?;
+    if let Some(k) = part.digit {
+        push_operand(m, regs, u, slot_at(slots, k), out)?;
     }
+    Ok(())
 }
 
-/// Writes a template with its operands filled in.
+/// Writes the line of an entry with its operands filled in.
 pub fn push_filled(
     m: &Machine,
     regs: &[u32],
     u: &UnitCode,
     slots: &[Option<Operand>],
-    template: &[Piece],
+    line: &Line,
     out: &mut Vec<u8>,
 ) -> Result<(), OutOfMemory>
-    ensures ok { OnOk result (out.new.items ≡ out.old.items ++ filled m.now (machine_at regs.now) (unit_of u.now) slots.now template.now) }
+    ensures ok { OnOk result (out.new.items
+        ≡ out.old.items ++ line_text (digit_text m.now (machine_at regs.now) (unit_of u.now) slots.now) line.now) }
     ensures err { OnErr result (StartsWith out.new.items out.old.items) }
 {
-    for piece in template {
-        push_piece(m, regs, u, slots, *piece, out)?;
+    for part in &line.parts {
+        push_part(m, regs, u, slots, part, out)?;
     }
     Ok(())
 }

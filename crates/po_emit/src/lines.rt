@@ -1,23 +1,23 @@
 //! The lines of instructions and of blocks.
-ghost use Rattle.std.specs.Prelude.{◌≡◌, ◌++◌, ◌<◌, ◌^◌, ℕ, Bool, OnOk, OnErr, length, slice_get};
+ghost use Rattle.std.specs.Prelude.{◌≡◌, ◌++◌, ◌<◌, ◌^◌, ℕ, Bool, OnOk, OnErr, length, codes};
 ghost use Rattle.std.specs.Io.{StartsWith};
 ghost use Rattle.po_term.specs.Moves.{moves_of, instrs_of};
 ghost use Rattle.po_model.specs.Fit.{fit};
 ghost use Rattle.po_model.specs.UnitCodes.{unit_of};
 ghost use Rattle.po_model.specs.Assembly.{label_line, line_of, lines_from};
-ghost use Rattle.po_recog.specs.Operands.{fit_of};
 ghost use Rattle.po_recog.specs.Indexes.{IsIndexOf};
 ghost use Rattle.po_live.specs.Flags.{flag_at};
 ghost use Rattle.po_emit.specs.Regs.{machine_at};
-ghost use Rattle.po_emit.specs.Texts.{filled_from, line_with};
+ghost use Rattle.po_emit.specs.Texts.{line_with};
+ghost use Rattle.po_emit.specs.Templates.{AreTemplatesOf};
 
 use crate::fill::push_filled;
 use crate::names::push_label;
+use crate::templates::Templates;
 use po_model::{Block, Machine, UnitCode};
-use po_recog::{Fit, Index, recognise_by};
+use po_recog::{Index, Operand, recognise_in};
 use po_term::{Instr, Label, Transfer};
 use po_word::OutOfMemory;
-use std::alloc::Global;
 
 /// Writes the line of a block, where it has a label.
 pub fn push_label_line(
@@ -35,45 +35,42 @@ pub fn push_label_line(
     Ok(())
 }
 
-/// Writes the template of the entry of that number with its operands filled in. Nothing where there is none of that number.
-fn push_entry(
-    m: &Machine,
-    regs: &[u32],
-    u: &UnitCode,
-    found: &Fit,
-    out: &mut Vec<u8>,
-) -> Result<(), OutOfMemory>
-    ensures ok { OnOk result (out.new.items ≡ out.old.items ++ filled_from m.now (machine_at regs.now) (unit_of u.now) found.now.operands.items (slice_get m.now.entries found.now.entry)) }
+/// Writes a line without an instruction.
+fn push_empty_line(out: &mut Vec<u8>) -> Result<(), OutOfMemory>
+    ensures ok { OnOk result (out.new.items ≡ out.old.items ++ codes "  \n") }
     ensures err { OnErr result (StartsWith out.new.items out.old.items) }
 {
-    match m.entries.as_slice().get(found.entry as usize) {
-        Some(entry) => push_filled(m, regs, u, &found.operands, entry.template.as_slice(), out),
-        None => Ok(()),
-    }
+    out.extend_from_slice(b"  \n")?;
+    Ok(())
 }
 
-/// Writes the line of an instruction that fits an entry: two spaces, the filled template and a line feed.
-fn push_found(
+/// Writes the line of the entry of that number with its operands filled in. An empty line where there is none of that
+/// number.
+fn push_entry(
     m: &Machine,
+    templates: &Templates,
     regs: &[u32],
     u: &UnitCode,
-    found: &Fit,
+    entry: u32,
+    slots: &[Option<Operand>],
     out: &mut Vec<u8>,
 ) -> Result<(), OutOfMemory>
-    ensures ok { OnOk result (out.new.items ≡ out.old.items ++ line_with m.now (machine_at regs.now) (unit_of u.now) (fit_of found.now)) }
+    requires { AreTemplatesOf m.now templates.now }
+    ensures ok { OnOk result (out.new.items
+        ≡ out.old.items ++ line_with m.now (machine_at regs.now) (unit_of u.now) (entry, slots.now)) }
     ensures err { OnErr result (StartsWith out.new.items out.old.items) }
 {
-    out.extend_from_slice(b"  ")?;
-    push_entry(m, regs, u, found, out)?;
-    out.extend_from_slice(b"\n")?;
-    Ok(())
+    match templates.lines.as_slice().get(entry as usize) {
+        Some(line) => push_filled(m, regs, u, slots, line, out),
+        None => push_empty_line(out),
+    }
 }
 
 /// Writes the line of an instruction. Nothing where no entry fits it.
 fn push_line(
-    alloc: Global,
     m: &Machine,
     index: &Index,
+    templates: &Templates,
     regs: &[u32],
     u: &UnitCode,
     xs: &[Transfer],
@@ -82,11 +79,14 @@ fn push_line(
 ) -> Result<(), OutOfMemory>
     requires entries { length m.now.entries < 2 ^ 32 }
     requires index { IsIndexOf m.now index.now }
-    ensures ok { OnOk result (out.new.items ≡ out.old.items ++ line_of m.now (machine_at regs.now) (unit_of u.now) (fit m.now cc_live (moves_of xs.now))) }
+    requires templates { AreTemplatesOf m.now templates.now }
+    ensures ok { OnOk result (out.new.items ≡ out.old.items
+        ++ line_of m.now (machine_at regs.now) (unit_of u.now) (fit m.now cc_live (moves_of xs.now))) }
     ensures err { OnErr result (StartsWith out.new.items out.old.items) }
 {
-    match recognise_by(alloc, m, index, xs, cc_live)? {
-        Some(found) => push_found(m, regs, u, &found, out),
+    let mut slots = [None; 10];
+    match recognise_in(m, index, xs, cc_live, &mut slots) {
+        Some(entry) => push_entry(m, templates, regs, u, entry, &slots, out),
         None => Ok(()),
     }
 }
@@ -103,9 +103,9 @@ fn cc_live_at(lives: &[bool], i: usize) -> bool
 
 /// Writes the lines of a block's instructions, with what is live after each.
 pub fn push_lines(
-    alloc: Global,
     m: &Machine,
     index: &Index,
+    templates: &Templates,
     regs: &[u32],
     u: &UnitCode,
     xs: &[Instr],
@@ -114,12 +114,23 @@ pub fn push_lines(
 ) -> Result<(), OutOfMemory>
     requires entries { length m.now.entries < 2 ^ 32 }
     requires index { IsIndexOf m.now index.now }
+    requires templates { AreTemplatesOf m.now templates.now }
     ensures ok { (live : ℕ → ℕ → Bool) (b : ℕ) → ((i : ℕ) → live b i ≡ flag_at lives.now i) →
-        OnOk result (out.new.items ≡ out.old.items ++ lines_from m.now (machine_at regs.now) (unit_of u.now) live b 0 (instrs_of xs.now)) }
+        OnOk result (out.new.items ≡ out.old.items
+        ++ lines_from m.now (machine_at regs.now) (unit_of u.now) live b 0 (instrs_of xs.now)) }
     ensures err { OnErr result (StartsWith out.new.items out.old.items) }
 {
     for (i, x) in xs.iter().enumerate() {
-        push_line(alloc, m, index, regs, u, &x.xs, cc_live_at(lives, i), out)?;
+        push_line(
+            m,
+            index,
+            templates,
+            regs,
+            u,
+            &x.xs,
+            cc_live_at(lives, i),
+            out,
+        )?;
     }
     Ok(())
 }

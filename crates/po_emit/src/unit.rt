@@ -8,9 +8,11 @@ ghost use Rattle.po_model.specs.Assembly.{label_line, lines_from, blocks_from, I
 ghost use Rattle.po_live.specs.Flags.{flag_at, flags_at};
 ghost use Rattle.po_recog.specs.Indexes.{IsIndexOf};
 ghost use Rattle.po_emit.specs.Regs.{machine_at};
+ghost use Rattle.po_emit.specs.Templates.{AreTemplatesOf};
 
 use crate::lines::{push_label_line, push_lines};
 use crate::names::machine_regs;
+use crate::templates::Templates;
 use po_assign::Placed;
 use po_live::cc_live_after;
 use po_model::{Block, Machine, UnitCode};
@@ -30,9 +32,9 @@ fn flags_at(lives: &[Vec<bool>], b: usize) -> &[bool]
 
 /// Writes the lines of a block.
 fn push_block(
-    alloc: Global,
     m: &Machine,
     index: &Index,
+    templates: &Templates,
     regs: &[u32],
     u: &UnitCode,
     block: &Block,
@@ -41,19 +43,21 @@ fn push_block(
 ) -> Result<(), OutOfMemory>
     requires entries { length m.now.entries < 2 ^ 32 }
     requires index { IsIndexOf m.now index.now }
+    requires templates { AreTemplatesOf m.now templates.now }
     ensures ok { (live : ℕ → ℕ → Bool) (b : ℕ) → ((i : ℕ) → live b i ≡ flag_at lives.now i) →
-        OnOk result (out.new.items ≡ out.old.items ++ label_line (unit_of u.now) block.now.label ++ lines_from m.now (machine_at regs.now) (unit_of u.now) live b 0 (instrs_of block.now.instrs.items)) }
+        OnOk result (out.new.items ≡ out.old.items ++ label_line (unit_of u.now) block.now.label
+        ++ lines_from m.now (machine_at regs.now) (unit_of u.now) live b 0 (instrs_of block.now.instrs.items)) }
     ensures err { OnErr result (StartsWith out.new.items out.old.items) }
 {
     push_label_line(u, block.label, out)?;
-    push_lines(alloc, m, index, regs, u, &block.instrs, lives, out)
+    push_lines(m, index, templates, regs, u, &block.instrs, lives, out)
 }
 
 /// Writes the lines of all blocks.
 fn push_blocks(
-    alloc: Global,
     m: &Machine,
     index: &Index,
+    templates: &Templates,
     regs: &[u32],
     u: &UnitCode,
     lives: &[Vec<bool>],
@@ -61,11 +65,14 @@ fn push_blocks(
 ) -> Result<(), OutOfMemory>
     requires entries { length m.now.entries < 2 ^ 32 }
     requires index { IsIndexOf m.now index.now }
-    ensures ok { OnOk result (out.new.items ≡ out.old.items ++ blocks_from m.now (machine_at regs.now) (unit_of u.now) (λ b i. flag_at (flags_at lives.now b) i) 0 (code_of u.now.code)) }
+    requires templates { AreTemplatesOf m.now templates.now }
+    ensures ok { OnOk result (out.new.items ≡ out.old.items
+        ++ blocks_from m.now (machine_at regs.now) (unit_of u.now) (λ b i. flag_at (flags_at lives.now b) i) 0
+        (code_of u.now.code)) }
     ensures err { OnErr result (StartsWith out.new.items out.old.items) }
 {
     for (b, block) in u.code.blocks.iter().enumerate() {
-        push_block(alloc, m, index, regs, u, block, flags_at(lives, b), out)?;
+        push_block(m, index, templates, regs, u, block, flags_at(lives, b), out)?;
     }
     Ok(())
 }
@@ -85,53 +92,61 @@ fn push_text(
     alloc: Global,
     m: &Machine,
     index: &Index,
+    templates: &Templates,
     p: &Placed,
     out: &mut Vec<u8>,
 ) -> Result<(), OutOfMemory>
     requires code { IsCode (code_of p.now.unit.code) }
     requires entries { length m.now.entries < 2 ^ 32 }
     requires index { IsIndexOf m.now index.now }
-    ensures ok { OnOk result ((text : List ℕ) × IsAssembly m.now p.now.regs.items (unit_of p.now.unit) text × (out.new.items ≡ out.old.items ++ text)) }
+    requires templates { AreTemplatesOf m.now templates.now }
+    ensures ok { OnOk result ((text : List ℕ)
+        × IsAssembly m.now p.now.regs.items (unit_of p.now.unit) text × (out.new.items ≡ out.old.items ++ text)) }
     ensures err { OnErr result (StartsWith out.new.items out.old.items) }
 {
     let regs = machine_regs(alloc, &p.regs)?;
     let lives = cc_live_after(alloc, &p.unit.code)?;
     push_name_line(&p.unit, out)?;
-    push_blocks(alloc, m, index, &regs, &p.unit, &lives.after, out)
+    push_blocks(m, index, templates, &regs, &p.unit, &lives.after, out)
 }
 
-/// `emit` by an index of the machine, made once for many units (docs/DESCRIPTION.md, "Templates").
+/// `emit` by an index and the templates of the machine, made once for many units (docs/DESCRIPTION.md, "Templates").
 pub fn emit_by(
     alloc: Global,
     m: &Machine,
     index: &Index,
+    templates: &Templates,
     p: &Placed,
     out: &mut Vec<u8>,
 ) -> Result<(), OutOfMemory>
     requires code { IsCode (code_of p.now.unit.code) }
     requires entries { length m.now.entries < 2 ^ 32 }
     requires index { IsIndexOf m.now index.now }
-    ensures ok { OnOk result ((text : List ℕ) × IsAssembly m.now p.now.regs.items (unit_of p.now.unit) text × (out.new.items ≡ out.old.items ++ text)) }
+    requires templates { AreTemplatesOf m.now templates.now }
+    ensures ok { OnOk result ((text : List ℕ)
+        × IsAssembly m.now p.now.regs.items (unit_of p.now.unit) text × (out.new.items ≡ out.old.items ++ text)) }
     ensures err { OnErr result (out.new.items ≡ out.old.items) }
 {
     let before = out.len();
-    let written = push_text(alloc, m, index, p, out);
+    let written = push_text(alloc, m, index, templates, p, out);
     if written.is_err() {
         out.truncate(before);
     }
     written
 }
 
-/// Writes the assembly of a unit at the end of `out`: the line `NAME:`, for each block the line `NAME.LABEL:` where it has a label, and
-/// for each instruction the filled template of the first entry that it fits before placement. After `OutOfMemory` `out` is as before
-/// (docs/DESCRIPTION.md, "Templates"). The machine has fewer than 2^32 entries, and a control transfer stands only in the last
-/// instruction of a block.
+/// Writes the assembly of a unit at the end of `out`: the line `NAME:`, for each block the line `NAME.LABEL:` where it
+/// has a label, and for each instruction the filled template of the first entry that it fits before placement. After
+/// `OutOfMemory` `out` is as before (docs/DESCRIPTION.md, "Templates"). The machine has fewer than 2^32 entries, and a
+/// control transfer stands only in the last instruction of a block.
 pub fn emit(alloc: Global, m: &Machine, p: &Placed, out: &mut Vec<u8>) -> Result<(), OutOfMemory>
     requires code { IsCode (code_of p.now.unit.code) }
     requires entries { length m.now.entries < 2 ^ 32 }
-    ensures ok { OnOk result ((text : List ℕ) × IsAssembly m.now p.now.regs.items (unit_of p.now.unit) text × (out.new.items ≡ out.old.items ++ text)) }
+    ensures ok { OnOk result ((text : List ℕ)
+        × IsAssembly m.now p.now.regs.items (unit_of p.now.unit) text × (out.new.items ≡ out.old.items ++ text)) }
     ensures err { OnErr result (out.new.items ≡ out.old.items) }
 {
     let index = Index::new(alloc, m)?;
-    emit_by(alloc, m, &index, p, out)
+    let templates = Templates::new(alloc, m)?;
+    emit_by(alloc, m, &index, &templates, p, out)
 }

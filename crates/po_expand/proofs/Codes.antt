@@ -29,7 +29,8 @@ module _ {A : Type 0} (P : A → Type 0) where
   back (x ∷ xs) ys h = back xs ys h.1
 
 module _ (labels syms : List Text) where
-  knows : (os : List Op) → AllByRecursion IsOp os → AllByRecursion (λ l. has l labels ≡ true) (flat_map label_in os) → AllByRecursion (λ l. has l labels ≡ true) (flat_map target_in os)
+  knows : (os : List Op) → AllByRecursion IsOp os → AllByRecursion (λ l. has l labels ≡ true) (flat_map label_in os)
+      → AllByRecursion (λ l. has l labels ≡ true) (flat_map target_in os)
       → AllByRecursion (λ s. has s syms ≡ true) (flat_map sym_in os) → Knows labels syms os
   knows [] h l t s = tt
   knows (o ∷ os) h l t s = (
@@ -86,13 +87,19 @@ pub unit_code : (u : StackUnit) → IsUnit u → IsUnitCode (naive u)
 unit_code u h =
     let labels = each_once (labels_of u.ops) in
     let syms = each_once (flat_map sym_in u.ops) in
-    let few_labels : length labels ≤ 2 ^ 32 = omega (arith, once_few (labels_of u.ops), flat_few label_in one_label u.ops, h.few) in
-    let few_syms : length syms ≤ 2 ^ 32 = omega (arith, once_few (flat_map sym_in u.ops), flat_few sym_in one_sym u.ops, h.few) in
+    let few_labels : length labels ≤ 2 ^ 32 =
+    omega (arith, once_few (labels_of u.ops), flat_few label_in one_label u.ops, h.few) in
+    let few_syms : length syms ≤ 2 ^ 32 =
+    omega (arith, once_few (flat_map sym_in u.ops), flat_few sym_in one_sym u.ops, h.few) in
     let known = knows labels syms u.ops (recursion_from_All IsOp u.ops h.each)
-    (recursion_from_All (λ l. has l labels ≡ true) (labels_of u.ops) (all_once (labels_of u.ops) (labels_of u.ops) (all_has (labels_of u.ops))))
-    (recursion_from_All (λ l. has l labels ≡ true) (flat_map target_in u.ops) (all_once (labels_of u.ops) (flat_map target_in u.ops) h.targets))
-    (recursion_from_All (λ s. has s syms ≡ true) (flat_map sym_in u.ops) (all_once (flat_map sym_in u.ops) (flat_map sym_in u.ops) (all_has (flat_map sym_in u.ops)))) in
-    let sound = pieces_sound labels syms few_labels few_syms 0 [] [] u.ops (omega (arith, h.few)) tt (unit_fits u h) known in
+    (recursion_from_All (λ l. has l labels ≡ true) (labels_of u.ops)
+    (all_once (labels_of u.ops) (labels_of u.ops) (all_has (labels_of u.ops))))
+    (recursion_from_All (λ l. has l labels ≡ true) (flat_map target_in u.ops)
+    (all_once (labels_of u.ops) (flat_map target_in u.ops) h.targets))
+    (recursion_from_All (λ s. has s syms ≡ true) (flat_map sym_in u.ops)
+    (all_once (flat_map sym_in u.ops) (flat_map sym_in u.ops) (all_has (flat_map sym_in u.ops)))) in
+    let sound =
+    pieces_sound labels syms few_labels few_syms 0 [] [] u.ops (omega (arith, h.few)) tt (unit_fits u h) known in
     let naive_pieces = pieces labels syms 0 [] u.ops in
     let Good = GoodBlock (length labels) (length syms) in
     let good = cut_good (length labels) (length syms) 0 naive_pieces sound in

@@ -1,5 +1,6 @@
 -- Each piece of a unit's naive code is sound.
-use Rattle.std.proofs.Common.{◌≡◌, ℕ, suc, ◌+◌, ◌*◌, ◌<◌, ◌≤◌, Bool, true, false, List, [], ◌∷◌, ◌++◌, length, refl, sym, ◌∙◌, ap, subst, arith}
+use Rattle.std.proofs.Common.{◌≡◌, ℕ, suc, ◌+◌, ◌*◌, ◌<◌, ◌≤◌, Bool, true, false, List, [], ◌∷◌, ◌++◌, length, refl}
+use Rattle.std.proofs.Common.{sym, ◌∙◌, ap, subst, arith}
 use Rattle.std.specs.Prelude.{AllPairs, Contains, ⊤, ◌^◌, ◌≢◌, ◌||◌, ◌==◌}
 use Rattle.std.specs.List.{AllByRecursion}
 use Rattle.std.proofs.lemmas.Bool.{or_cases, false≢true, eqb-true}
@@ -32,7 +33,13 @@ single_pairs : (m : PlainMove) → AllPairs GoesBefore (m ∷ [])
 single_pairs m = λ i j d h k. absurd (omega (arith, h, k))
 
 single_formed : (m : PlainMove) → WellFormedMove m → WellFormed (m ∷ [])
-single_formed m h = record { some = omega arith; few = omega arith; pairs = single_pairs m; each = All-cons WellFormedMove m [] h (All-nil WellFormedMove) }
+single_formed m h =
+    record {
+      some = omega arith;
+      few = omega arith;
+      pairs = single_pairs m;
+      each = All-cons WellFormedMove m [] h (All-nil WellFormedMove);
+    }
 
 is_fp : Register → Bool
 is_fp Fp = true
@@ -90,7 +97,8 @@ reads_one set a v h e = go (or_cases (a == v) false e)
     go (inl f) = same_in set a v h f
     go (inr f) = absurd (false≢true f)
 
-reads_two : (set : List ℕ) (a b v : ℕ) → Contains set a → Contains set b → (((a == v) || (b == v)) || false) ≡ true → Contains set v
+reads_two : (set : List ℕ) (a b v : ℕ) → Contains set a → Contains set b → (((a == v) || (b == v)) || false) ≡ true
+    → Contains set v
 reads_two set a b v h k e = outer (or_cases ((a == v) || (b == v)) false e)
   where
     inner : (a == v ≡ true) ⊎ (b == v ≡ true) → Contains set v
@@ -129,13 +137,18 @@ module _ (labels syms : List Text) where
   -- the numbers of these operations are in range, and their names are known
   abbrev pub Knows : List Op → Type 0
   Knows [] = ⊤
-  Knows (o ∷ os) = IsOp o × AllByRecursion (λ l. has l labels ≡ true) (label_in o) × AllByRecursion (λ l. has l labels ≡ true) (target_in o)
+  Knows (o ∷ os) =
+      IsOp o × AllByRecursion (λ l. has l labels ≡ true) (label_in o)
+      × AllByRecursion (λ l. has l labels ≡ true) (target_in o)
       × AllByRecursion (λ s. has s syms ≡ true) (sym_in o) × Knows os
 
-  defines : (k : ℕ) (set : List ℕ) (t : Tree ℕ Place) (ps : List Piece) → k < 2 ^ 32 → WellFormedTerm t → EachLeaf (HasSym (length syms)) t
-      → ((v : ℕ) → (term_reads t (Reg (Virt v)) || false) ≡ true → Contains set v) → Sound (length labels) (length syms) (k + 1) (set ++ k ∷ []) ps
+  defines : (k : ℕ) (set : List ℕ) (t : Tree ℕ Place) (ps : List Piece) → k < 2 ^ 32 → WellFormedTerm t
+      → EachLeaf (HasSym (length syms)) t
+      → ((v : ℕ) → (term_reads t (Reg (Virt v)) || false) ≡ true → Contains set v)
+      → Sound (length labels) (length syms) (k + 1) (set ++ k ∷ []) ps
       → Sound (length labels) (length syms) k set (Does (SetTo (Virt k) t) ∷ ps)
-  defines k set t ps b wf names reads rest = (single_formed (SetTo (Virt k) t) (b, virt_not_fp k, wf), names, reads, refl, rest)
+  defines k set t ps b wf names reads rest =
+      (single_formed (SetTo (Virt k) t) (b, virt_not_fp k, wf), names, reads, refl, rest)
 
   module _ (few_labels : length labels ≤ 2 ^ 32) (few_syms : length syms ≤ 2 ^ 32) where
     label_fits : (l : Text) → has l labels ≡ true → (label labels syms l).0 < 2 ^ 32
@@ -144,22 +157,30 @@ module _ (labels syms : List Text) where
     symbol_fits : (s : Text) → has s syms ≡ true → (symbol labels syms s).0 < 2 ^ 32
     symbol_fits s h = let b = number_below syms s h in omega (arith, b, few_syms)
 
-    pub pieces_sound : (k : ℕ) (set stack : List ℕ) (os : List Op) → k + length os ≤ 2 ^ 32 → OnStack set stack → Fits (length stack) os → Knows os
+    pub pieces_sound : (k : ℕ) (set stack : List ℕ) (os : List Op) → k + length os ≤ 2 ^ 32 → OnStack set stack
+        → Fits (length stack) os → Knows os
         → Sound (length labels) (length syms) k set (pieces labels syms k stack os)
     pieces_sound k set stack [] b s f n = tt
     pieces_sound k set stack (op.Con c ∷ os) b s f n =
         defines k set (Const c) _ (omega (arith, b)) (const_formed c n.0) tt (λ v e. absurd (false≢true e))
-        (pieces_sound (k + 1) (set ++ k ∷ []) (k ∷ stack) os (omega (arith, b)) (put set stack k (omega (arith, b)) s) (refit os _ _ (omega arith) f.2) n.4)
+        (pieces_sound (k + 1) (set ++ k ∷ []) (k ∷ stack) os (omega (arith, b)) (put set stack k (omega (arith, b)) s)
+        (refit os _ _ (omega arith) f.2) n.4)
     pieces_sound k set stack (op.Adl c ∷ os) b s f n =
-        defines k set (Binary Add (register Fp) (Const c)) _ (omega (arith, b)) (frame_formed c n.0) (tt, tt) (λ v e. absurd (false≢true e))
-        (pieces_sound (k + 1) (set ++ k ∷ []) (k ∷ stack) os (omega (arith, b)) (put set stack k (omega (arith, b)) s) (refit os _ _ (omega arith) f.2) n.4)
+        defines k set (Binary Add (register Fp) (Const c)) _ (omega (arith, b)) (frame_formed c n.0) (tt, tt)
+        (λ v e. absurd (false≢true e))
+        (pieces_sound (k + 1) (set ++ k ∷ []) (k ∷ stack) os (omega (arith, b)) (put set stack k (omega (arith, b)) s)
+        (refit os _ _ (omega arith) f.2) n.4)
     pieces_sound k set stack (op.Adg g ∷ os) b s f n =
-        defines k set (Leaf (AtSym (symbol labels syms g))) _ (omega (arith, b)) (sym_formed (symbol labels syms g) (symbol_fits g n.3.0)) (number_below syms g n.3.0) (λ v e. absurd (false≢true e))
-        (pieces_sound (k + 1) (set ++ k ∷ []) (k ∷ stack) os (omega (arith, b)) (put set stack k (omega (arith, b)) s) (refit os _ _ (omega arith) f.2) n.4)
+        defines k set (Leaf (AtSym (symbol labels syms g))) _ (omega (arith, b))
+        (sym_formed (symbol labels syms g) (symbol_fits g n.3.0)) (number_below syms g n.3.0)
+        (λ v e. absurd (false≢true e))
+        (pieces_sound (k + 1) (set ++ k ∷ []) (k ∷ stack) os (omega (arith, b)) (put set stack k (omega (arith, b)) s)
+        (refit os _ _ (omega arith) f.2) n.4)
     pieces_sound k set [] (op.Lod ∷ os) b s f n = tt
     pieces_sound k set (a ∷ stack) (op.Lod ∷ os) b s f n =
         defines k set (Read (virt a)) _ (omega (arith, b)) (read_formed a s.0) tt (λ v e. reads_one set a v s.1 e)
-        (pieces_sound (k + 1) (set ++ k ∷ []) (k ∷ stack) os (omega (arith, b)) (put set stack k (omega (arith, b)) s.2) (refit os _ _ (omega arith) f.2) n.4)
+        (pieces_sound (k + 1) (set ++ k ∷ []) (k ∷ stack) os (omega (arith, b))
+        (put set stack k (omega (arith, b)) s.2) (refit os _ _ (omega arith) f.2) n.4)
     pieces_sound k set [] (op.Sto ∷ os) b s f n = tt
     pieces_sound k set (x ∷ []) (op.Sto ∷ os) b s f n = tt
     pieces_sound k set (x ∷ a ∷ stack) (op.Sto ∷ os) b s f n = (
@@ -167,22 +188,30 @@ module _ (labels syms : List Text) where
       (tt, tt),
       λ v e. reads_two set a x v s.2.1 s.1 e,
       tt,
-      pieces_sound k (set ++ []) stack os (omega (arith, b)) (grow set [] stack s.2.2) (refit os _ _ (omega arith) f.2) n.4,
+      pieces_sound k (set ++ []) stack os (omega (arith, b)) (grow set [] stack s.2.2) (refit os _ _ (omega arith) f.2)
+          n.4,
     )
     pieces_sound k set [] (op.Bin o ∷ os) b s f n = tt
     pieces_sound k set (x ∷ []) (op.Bin o ∷ os) b s f n = tt
     pieces_sound k set (x ∷ a ∷ stack) (op.Bin o ∷ os) b s f n =
-        defines k set (Binary o (virt a) (virt x)) _ (omega (arith, b)) (binary_formed o a x s.2.0 s.0) (tt, tt) (λ v e. reads_two set a x v s.2.1 s.1 e)
-        (pieces_sound (k + 1) (set ++ k ∷ []) (k ∷ stack) os (omega (arith, b)) (put set stack k (omega (arith, b)) s.2.2) (refit os _ _ (omega arith) f.2) n.4)
+        defines k set (Binary o (virt a) (virt x)) _ (omega (arith, b)) (binary_formed o a x s.2.0 s.0) (tt, tt)
+        (λ v e. reads_two set a x v s.2.1 s.1 e)
+        (pieces_sound (k + 1) (set ++ k ∷ []) (k ∷ stack) os (omega (arith, b))
+        (put set stack k (omega (arith, b)) s.2.2) (refit os _ _ (omega arith) f.2) n.4)
     pieces_sound k set [] (op.Un o ∷ os) b s f n = tt
     pieces_sound k set (a ∷ stack) (op.Un o ∷ os) b s f n =
-        defines k set (Unary o (virt a)) _ (omega (arith, b)) (unary_formed o a s.0) tt (λ v e. reads_one set a v s.1 e)
-        (pieces_sound (k + 1) (set ++ k ∷ []) (k ∷ stack) os (omega (arith, b)) (put set stack k (omega (arith, b)) s.2) (refit os _ _ (omega arith) f.2) n.4)
+        defines k set (Unary o (virt a)) _ (omega (arith, b)) (unary_formed o a s.0) tt
+        (λ v e. reads_one set a v s.1 e)
+        (pieces_sound (k + 1) (set ++ k ∷ []) (k ∷ stack) os (omega (arith, b))
+        (put set stack k (omega (arith, b)) s.2) (refit os _ _ (omega arith) f.2) n.4)
     pieces_sound k set [] (op.Dup ∷ os) b s f n = tt
-    pieces_sound k set (a ∷ stack) (op.Dup ∷ os) b s f n = pieces_sound k set (a ∷ a ∷ stack) os (omega (arith, b)) (s.0, s.1, s) (refit os _ _ (omega arith) f.2) n.4
+    pieces_sound k set (a ∷ stack) (op.Dup ∷ os) b s f n =
+        pieces_sound k set (a ∷ a ∷ stack) os (omega (arith, b)) (s.0, s.1, s) (refit os _ _ (omega arith) f.2) n.4
     pieces_sound k set [] (op.Pop ∷ os) b s f n = tt
-    pieces_sound k set (a ∷ stack) (op.Pop ∷ os) b s f n = pieces_sound k set stack os (omega (arith, b)) s.2 (refit os _ _ (omega arith) f.2) n.4
-    pieces_sound k set [] (op.Lab l ∷ os) b s f n = (number_below labels l n.1.0, pieces_sound k [] [] os (omega (arith, b)) tt f.2 n.4)
+    pieces_sound k set (a ∷ stack) (op.Pop ∷ os) b s f n =
+        pieces_sound k set stack os (omega (arith, b)) s.2 (refit os _ _ (omega arith) f.2) n.4
+    pieces_sound k set [] (op.Lab l ∷ os) b s f n =
+        (number_below labels l n.1.0, pieces_sound k [] [] os (omega (arith, b)) tt f.2 n.4)
     pieces_sound k set (a ∷ stack) (op.Lab l ∷ os) b s f n = left_over (length stack) (f.1 refl)
     pieces_sound k set [] (op.Jmp l ∷ os) b s f n = (
       single_formed (Ends (GoTo (label labels syms l))) (label_fits l n.2.0),
@@ -214,7 +243,8 @@ module _ (labels syms : List Text) where
       tt,
       λ v e. reads_one set a v s.1 e,
       tt,
-      pieces_sound k (set ++ []) stack os (omega (arith, b)) (grow set [] stack s.2) (refit os _ _ (omega arith) f.2) n.4,
+      pieces_sound k (set ++ []) stack os (omega (arith, b)) (grow set [] stack s.2) (refit os _ _ (omega arith) f.2)
+          n.4,
     )
     pieces_sound k set [] (op.Call g c ∷ os) b s f n = (
       single_formed (Ends (CallOf (symbol labels syms g) c)) (symbol_fits g n.3.0, n.0.1),

@@ -1,5 +1,6 @@
 -- Each name of a unit has its number.
-use Rattle.std.proofs.Common.{◌≡◌, suc, ◌+◌, ◌<◌, ◌≤◌, Bool, true, false, List, [], ◌∷◌, ◌++◌, length, get_or, refl, sym, ◌∙◌, ap, subst, arith, cond, length-append}
+use Rattle.std.proofs.Common.{◌≡◌, suc, ◌+◌, ◌<◌, ◌≤◌, Bool, true, false, List, [], ◌∷◌, ◌++◌, length, get_or, refl}
+use Rattle.std.proofs.Common.{sym, ◌∙◌, ap, subst, arith, cond, length-append}
 use Rattle.std.specs.Prelude.{All, nat_eq, not, ◌||◌, if◌then◌else◌}
 use Rattle.std.specs.Cmp.Lexicographic.{pointwise, bytes_decides}
 use Rattle.std.proofs.lemmas.Bool.{or_cases, false≢true}
@@ -43,9 +44,11 @@ behind_keeps n names (m ∷ ns) e = behind_keeps n (with_name names m) ns (with_
 
 behind_has : (n : Text) (names ns : List Text) → has n ns ≡ true → has n (names_behind names ns) ≡ true
 behind_has n names [] e = absurd (false≢true e)
-behind_has n names (m ∷ ns) e = go (λ f. behind_has n (with_name names m) ns f) (or_cases (pointwise nat_eq n m) (has n ns) e)
+behind_has n names (m ∷ ns) e =
+    go (λ f. behind_has n (with_name names m) ns f) (or_cases (pointwise nat_eq n m) (has n ns) e)
   where
-    go : (has n ns ≡ true → has n (names_behind (with_name names m) ns) ≡ true) → (pointwise nat_eq n m ≡ true) ⊎ (has n ns ≡ true) → has n (names_behind (with_name names m) ns) ≡ true
+    go : (has n ns ≡ true → has n (names_behind (with_name names m) ns) ≡ true)
+        → (pointwise nat_eq n m ≡ true) ⊎ (has n ns ≡ true) → has n (names_behind (with_name names m) ns) ≡ true
     go later (inl f) = behind_keeps n (with_name names m) ns (with_has n m names f)
     go later (inr f) = later f
 
@@ -54,7 +57,9 @@ once_has n ns e = behind_has n [] ns e
 
 -- each name of a list is in it
 pub all_has : (ns : List Text) → All (λ n. has n ns ≡ true) ns
-all_has ns = λ k d h. list_any_at (pointwise nat_eq (get_or ns k d)) ns k d h ((bytes_decides (get_or ns k d) (get_or ns k d)).1 refl)
+all_has ns =
+    λ k d h. list_any_at (pointwise nat_eq (get_or ns k d)) ns k d h
+    ((bytes_decides (get_or ns k d) (get_or ns k d)).1 refl)
 
 pub all_once : (ns ms : List Text) → All (λ n. has n ns ≡ true) ms → All (λ n. has n (each_once ns) ≡ true) ms
 all_once ns ms a = All-weaker (λ n. has n ns ≡ true) (λ n. has n (each_once ns) ≡ true) (λ n e. once_has n ns e) ms a
@@ -64,9 +69,11 @@ pub number_below : (names : List Text) (n : Text) → has n names ≡ true → n
 number_below [] n e = absurd (false≢true e)
 number_below (m ∷ ms) n e = by_test (λ f. number_below ms n f) (pointwise nat_eq n m) refl
   where
-    by_test : (has n ms ≡ true → number_in ms n < length ms) → (b : Bool) → pointwise nat_eq n m ≡ b → cond (not b) (1 + number_in ms n) 0 < suc (length ms)
+    by_test : (has n ms ≡ true → number_in ms n < length ms) → (b : Bool) → pointwise nat_eq n m ≡ b
+        → cond (not b) (1 + number_in ms n) 0 < suc (length ms)
     by_test later true f = omega arith
-    by_test later false f = let k : number_in ms n < length ms = later (sym (ap (λ (b : Bool). b || has n ms) f) ∙ e) in omega (arith, k)
+    by_test later false f =
+        let k : number_in ms n < length ms = later (sym (ap (λ (b : Bool). b || has n ms) f) ∙ e) in omega (arith, k)
 
 with_few : (names : List Text) (m : Text) → length (with_name names m) ≤ length names + 1
 with_few names m = by_test (has m names)

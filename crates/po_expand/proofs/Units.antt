@@ -15,7 +15,8 @@ depth_more d [] o = refl
 depth_more d (p ∷ os) o = depth_more (depth_by d p) os o
 
 -- a choice without a fault
-no_fault : (b : Bool) (x : LineFault) (r : Option LineFault) → (if b then Some x else r) ≡ None → (b ≡ false) × (r ≡ None)
+no_fault : (b : Bool) (x : LineFault) (r : Option LineFault) → (if b then Some x else r) ≡ None
+    → (b ≡ false) × (r ≡ None)
 no_fault true x r e = absurd (grind arith)
 no_fault false x r e = (refl, e)
 
@@ -26,14 +27,19 @@ split_and false b e f = absurd (grind arith)
 same_depth : (a b : ℕ) → a ≤ b → b ≤ a → b ≡ a
 same_depth a b h k = omega (arith, h, k)
 
-allowed : (before : List Op) (o : Op) → decided before o 1 ≡ None → (pops o ≤ depth_of before) × (is_boundary o ≡ true → depth_of before ≡ pops o)
+allowed : (before : List Op) (o : Op) → decided before o 1 ≡ None
+    → (pops o ≤ depth_of before) × (is_boundary o ≡ true → depth_of before ≡ pops o)
 allowed before o e =
     let labels = no_fault _ _ _ e in
     let values = no_fault _ _ _ labels.1 in
     let many = no_fault _ _ _ values.1 in
     let boundary = no_fault _ _ _ many.1 in
-    let enough : pops o ≤ depth_of before = ltb-false (depth_of before) (pops o) values.0 in
-    (enough, λ b. same_depth (pops o) (depth_of before) enough (ltb-false (pops o) (depth_of before) (split_and (is_boundary o) (nat_lt (pops o) (depth_of before)) boundary.0 b)))
+    let enough : pops o ≤ depth_of before = ltb-false (depth_of before) (pops o) values.0 in (
+      enough,
+      λ b. same_depth (pops o) (depth_of before) enough
+          (ltb-false (pops o) (depth_of before)
+          (split_and (is_boundary o) (nat_lt (pops o) (depth_of before)) boundary.0 b)),
+    )
 
 follow_fits : (before os : List Op) → Follow before os → Fits (depth_of before) os
 follow_fits before [] f = tt

@@ -8,4 +8,5 @@ use Rattle.po_model.specs.Naive.{naive}
 
 -- cc is dead at the start of each block of naive code
 abbrev pub CcDeadAtStarts : Type 0
-CcDeadAtStarts = (u : StackUnit) (b : ℕ) → IsLive (naive u).code Cc (record { block = b; rest = instrs_at (naive u).code b }) → ⊥
+CcDeadAtStarts =
+    (u : StackUnit) (b : ℕ) → IsLive (naive u).code Cc (record { block = b; rest = instrs_at (naive u).code b }) → ⊥

@@ -40,5 +40,6 @@ AllFitBefore m lives code b = (c : ℕ) → c < b → AllFit m (flags_at lives c
 
 abbrev pub ChecksBlocks : Machine → List (Vec Bool) → List PlainBlock → Result ⊤ CheckRefusal → Type 0
 ChecksBlocks m lives code (Ok v) = AllFitBefore m lives code (length code)
-ChecksBlocks m lives code (Err (Unrecognised b i)) = AllFitBefore m lives code b × FirstUnfit m (flags_at lives b) (instrs_at code b) i
+ChecksBlocks m lives code (Err (Unrecognised b i)) =
+    AllFitBefore m lives code b × FirstUnfit m (flags_at lives b) (instrs_at code b) i
 ChecksBlocks m lives code (Err OutOfMemory) = ⊤

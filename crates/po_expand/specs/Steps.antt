@@ -23,30 +23,66 @@ abbrev pub nothing_yet : Between
 nothing_yet = record { ended = []; label = None; instrs = []; stack = []; next = 0 }
 
 abbrev pub between : Expansion → Between
-between e = record { ended = map block_of e.ended.items; label = e.label; instrs = instrs_of e.instrs.items; stack = reverse e.stack.items; next = e.next }
+between e =
+    record {
+      ended = map block_of e.ended.items;
+      label = e.label;
+      instrs = instrs_of e.instrs.items;
+      stack = reverse e.stack.items;
+      next = e.next;
+    }
 
 -- one instruction more, of one move
 abbrev pub added : PlainMove → Between → Between
-added m b = record { ended = b.ended; label = b.label; instrs = b.instrs ++ (m ∷ []) ∷ []; stack = b.stack; next = b.next }
+added m b =
+    record { ended = b.ended; label = b.label; instrs = b.instrs ++ (m ∷ []) ∷ []; stack = b.stack; next = b.next }
 
 -- the next register is set, and lies on the stack
 abbrev pub defined : Tree ℕ Place → Between → Between
-defined t b = record { ended = b.ended; label = b.label; instrs = b.instrs ++ (SetTo (Virt b.next) t ∷ []) ∷ []; stack = b.next ∷ b.stack; next = b.next + 1 }
+defined t b =
+    record {
+      ended = b.ended;
+      label = b.label;
+      instrs = b.instrs ++ (SetTo (Virt b.next) t ∷ []) ∷ [];
+      stack = b.next ∷ b.stack;
+      next = b.next + 1;
+    }
 
 abbrev pub pushed : ℕ → Between → Between
 pushed a b = record { ended = b.ended; label = b.label; instrs = b.instrs; stack = a ∷ b.stack; next = b.next }
 
 -- the block that has begun ends, and another begins
 abbrev pub closed : Between → Between
-closed b = record { ended = b.ended ++ record { label = b.label; instrs = b.instrs } ∷ []; label = None; instrs = []; stack = b.stack; next = b.next }
+closed b =
+    record {
+      ended = b.ended ++ record { label = b.label; instrs = b.instrs } ∷ [];
+      label = None;
+      instrs = [];
+      stack = b.stack;
+      next = b.next;
+    }
 
 -- the block that has begun ends, unless it is blank
 abbrev pub finished : Between → Between
-finished b = record { ended = b.ended ++ unless_blank b.label b.instrs; label = None; instrs = []; stack = b.stack; next = b.next }
+finished b =
+    record {
+      ended = b.ended ++ unless_blank b.label b.instrs;
+      label = None;
+      instrs = [];
+      stack = b.stack;
+      next = b.next;
+    }
 
 -- and another begins with this label
 abbrev pub marked : Label → Between → Between
-marked l b = record { ended = b.ended ++ unless_blank b.label b.instrs; label = Some l; instrs = []; stack = b.stack; next = b.next }
+marked l b =
+    record {
+      ended = b.ended ++ unless_blank b.label b.instrs;
+      label = Some l;
+      instrs = [];
+      stack = b.stack;
+      next = b.next;
+    }
 
 -- the blocks of what was expanded and of these operations
 abbrev pub code_with : List Text → List Text → Between → List Op → List PlainBlock

@@ -83,7 +83,8 @@ impl Expansion {
 
     /// The blocks, the last one without a label and an instruction left out.
     pub fn finish(mut self, alloc: Global) -> Result<Vec<Block>, OutOfMemory>
-        ensures { IfOk result (λ blocks. map block_of blocks.items ≡ (between self).ended ++ unless_blank (between self).label (between self).instrs) }
+        ensures { IfOk result (λ blocks. map block_of blocks.items
+            ≡ (between self).ended ++ unless_blank (between self).label (between self).instrs) }
     {
         self.close_unless_blank(alloc)?;
         Ok(self.ended)

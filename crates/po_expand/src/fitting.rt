@@ -1,4 +1,5 @@
-//! Whether a machine has an instruction for each one of a code: blocks in order, and in each its instructions in order.
+//! Whether a machine has an instruction for each one of a code: blocks in order, and in each its instructions in
+//! order.
 
 ghost use Rattle.std.specs.Prelude.{◌≡◌, ◌<◌, ◌^◌, ℕ, length, map, is_some};
 ghost use Rattle.po_term.specs.Moves.{instr_of, instrs_of};
@@ -90,9 +91,10 @@ pub fn check_by(alloc: Global, m: &Machine, index: &Index, u: &UnitCode) -> Resu
     check_blocks(m, index, &u.code.blocks, &lives.after)
 }
 
-/// Whether a machine has an entry for each instruction of a code, with what is live after it in that code: Unrecognised at the first
-/// one that no entry fits (docs/DESCRIPTION.md, "What fits"). The machine has fewer than 2^32 entries. The code has fewer than 2^29
-/// instructions and fewer than 2^32 blocks, and a control transfer stands only in the last instruction of a block.
+/// Whether a machine has an entry for each instruction of a code, with what is live after it in that code:
+/// Unrecognised at the first one that no entry fits (docs/DESCRIPTION.md, "What fits"). The machine has fewer than
+/// 2^32 entries. The code has fewer than 2^29 instructions and fewer than 2^32 blocks, and a control transfer stands
+/// only in the last instruction of a block.
 pub fn check(alloc: Global, m: &Machine, u: &UnitCode) -> Result<(), CheckRefusal>
     requires entries { length m.now.entries < 2 ^ 32 }
     requires code { IsCode (code_of u.now.code) }

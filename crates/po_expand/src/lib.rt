@@ -1,8 +1,9 @@
-//! The naive code of a unit, and whether a machine has an instruction for each one of a code (docs/LANGUAGE.md, "Naive code").
+//! The naive code of a unit, and whether a machine has an instruction for each one of a code (docs/LANGUAGE.md, "Naive
+//! code").
 //!
-//! `names` numbers labels and symbols; `state` has what stands between two operations, and `blocks` cuts the code into blocks;
-//! `step` says what each operation does; `unit` goes through a unit; `fitting` asks for the entry of each instruction; `laws` says
-//! what holds of all naive code.
+//! `names` numbers labels and symbols; `state` has what stands between two operations, and `blocks` cuts the code into
+//! blocks; `step` says what each operation does; `unit` goes through a unit; `fitting` asks for the entry of each
+//! instruction; `laws` says what holds of all naive code.
 //!
 //! Its tests stand in `po_code_rows`.
 #![tactic(auto)]

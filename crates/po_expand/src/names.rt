@@ -1,5 +1,5 @@
-//! The labels and symbols of a unit with their numbers: labels in the order of `lab`, symbols by first occurrence. A name is found
-//! by a table.
+//! The labels and symbols of a unit with their numbers: labels in the order of `lab`, symbols by first occurrence. A
+//! name is found by a table.
 
 ghost use Rattle.std.specs.Prelude.{◌≡◌, ◌<◌, ◌≤◌, ◌+◌, ◌^◌, ◌++◌, ◌∷◌, [], length, IfOk, OnOk};
 ghost use Rattle.std.specs.List.{flat_map};

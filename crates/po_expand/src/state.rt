@@ -3,8 +3,8 @@
 use po_model::Block;
 use po_term::{Instr, Label};
 
-/// What stands between two operations: the blocks that have ended, the label and the instructions of the one that has begun,
-/// the registers on the stack, the top last, and the number of the next register.
+/// What stands between two operations: the blocks that have ended, the label and the instructions of the one that has
+/// begun, the registers on the stack, the top last, and the number of the next register.
 #[derive(Drop)]
 pub struct Expansion {
     pub ended: Vec<Block>,

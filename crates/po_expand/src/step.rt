@@ -89,7 +89,8 @@ impl Expansion {
 impl Expansion {
     fn constant(&mut self, alloc: Global, number: u32) -> Result<(), OutOfMemory>
         requires { self.old.next < 2 ^ 32 - 1 }
-        ensures { OnOk result ((labels syms : List Text) → Expands labels syms (op.Con number) (between self.old) (between self.new)) }
+        ensures { OnOk result
+            ((labels syms : List Text) → Expands labels syms (op.Con number) (between self.old) (between self.new)) }
     {
         self.define(alloc, Term::Num(number))
     }
@@ -97,7 +98,8 @@ impl Expansion {
     #[tactic(auto, using(crate::proofs::Steps::adl_is))]
     fn frame_address(&mut self, alloc: Global, number: u32) -> Result<(), OutOfMemory>
         requires { self.old.next < 2 ^ 32 - 1 }
-        ensures { OnOk result ((labels syms : List Text) → Expands labels syms (op.Adl number) (between self.old) (between self.new)) }
+        ensures { OnOk result
+            ((labels syms : List Text) → Expands labels syms (op.Adl number) (between self.old) (between self.new)) }
     {
         let address = binary(alloc, Bin::Add, Term::Reg(Reg::Fp), Term::Num(number))?;
         self.define(alloc, address)
@@ -105,7 +107,8 @@ impl Expansion {
 
     fn symbol_address(&mut self, alloc: Global, sym: Sym) -> Result<(), OutOfMemory>
         requires { self.old.next < 2 ^ 32 - 1 }
-        ensures { OnOk result ((labels syms : List Text) (s : Text) → symbol labels syms s ≡ sym → Expands labels syms (op.Adg s) (between self.old) (between self.new)) }
+        ensures { OnOk result ((labels syms : List Text) (s : Text) → symbol labels syms s ≡ sym
+            → Expands labels syms (op.Adg s) (between self.old) (between self.new)) }
     {
         self.define(alloc, Term::Addr(sym))
     }
@@ -114,7 +117,8 @@ impl Expansion {
     fn load(&mut self, alloc: Global) -> Result<(), OutOfMemory>
         requires room { self.old.next < 2 ^ 32 - 1 }
         requires values { 1 ≤ length self.old.stack.items }
-        ensures { OnOk result ((labels syms : List Text) → Expands labels syms op.Lod (between self.old) (between self.new)) }
+        ensures { OnOk result
+            ((labels syms : List Text) → Expands labels syms op.Lod (between self.old) (between self.new)) }
     {
         let address = self.pop();
         let word = word_at(alloc, virt(address))?;
@@ -124,7 +128,8 @@ impl Expansion {
     #[tactic(auto, using(crate::proofs::Steps::sto_is))]
     fn store(&mut self, alloc: Global) -> Result<(), OutOfMemory>
         requires { 2 ≤ length self.old.stack.items }
-        ensures { OnOk result ((labels syms : List Text) → Expands labels syms op.Sto (between self.old) (between self.new)) }
+        ensures { OnOk result
+            ((labels syms : List Text) → Expands labels syms op.Sto (between self.old) (between self.new)) }
     {
         let value = self.pop();
         let address = self.pop();
@@ -135,7 +140,8 @@ impl Expansion {
     fn apply_two(&mut self, alloc: Global, operator: Bin) -> Result<(), OutOfMemory>
         requires room { self.old.next < 2 ^ 32 - 1 }
         requires values { 2 ≤ length self.old.stack.items }
-        ensures { OnOk result ((labels syms : List Text) → Expands labels syms (op.Bin operator) (between self.old) (between self.new)) }
+        ensures { OnOk result
+            ((labels syms : List Text) → Expands labels syms (op.Bin operator) (between self.old) (between self.new)) }
     {
         let right = self.pop();
         let left = self.pop();
@@ -147,7 +153,8 @@ impl Expansion {
     fn apply_one(&mut self, alloc: Global, operator: Un) -> Result<(), OutOfMemory>
         requires room { self.old.next < 2 ^ 32 - 1 }
         requires values { 1 ≤ length self.old.stack.items }
-        ensures { OnOk result ((labels syms : List Text) → Expands labels syms (op.Un operator) (between self.old) (between self.new)) }
+        ensures { OnOk result
+            ((labels syms : List Text) → Expands labels syms (op.Un operator) (between self.old) (between self.new)) }
     {
         let operand = self.pop();
         let value = unary(alloc, operator, virt(operand))?;
@@ -157,7 +164,8 @@ impl Expansion {
     #[tactic(auto, using(crate::proofs::Steps::dup_is))]
     fn duplicate(&mut self) -> Result<(), OutOfMemory>
         requires { 1 ≤ length self.old.stack.items }
-        ensures { OnOk result ((labels syms : List Text) → Expands labels syms op.Dup (between self.old) (between self.new)) }
+        ensures { OnOk result
+            ((labels syms : List Text) → Expands labels syms op.Dup (between self.old) (between self.new)) }
     {
         let top = self.pop();
         self.push(top)?;
@@ -167,7 +175,8 @@ impl Expansion {
     #[tactic(auto, using(crate::proofs::Steps::pop_is))]
     fn discard(&mut self) -> Result<(), OutOfMemory>
         requires { 1 ≤ length self.old.stack.items }
-        ensures { OnOk result ((labels syms : List Text) → Expands labels syms op.Pop (between self.old) (between self.new)) }
+        ensures { OnOk result
+            ((labels syms : List Text) → Expands labels syms op.Pop (between self.old) (between self.new)) }
     {
         self.pop();
         Ok(())
@@ -175,14 +184,16 @@ impl Expansion {
 
     #[tactic(auto, using(crate::proofs::Steps::lab_is))]
     fn name_place(&mut self, alloc: Global, target: Label) -> Result<(), OutOfMemory>
-        ensures { OnOk result ((labels syms : List Text) (l : Text) → label labels syms l ≡ target → Expands labels syms (op.Lab l) (between self.old) (between self.new)) }
+        ensures { OnOk result ((labels syms : List Text) (l : Text) → label labels syms l ≡ target
+            → Expands labels syms (op.Lab l) (between self.old) (between self.new)) }
     {
         self.mark(alloc, target)
     }
 
     #[tactic(auto, using(crate::proofs::Steps::jmp_is))]
     fn jump(&mut self, alloc: Global, target: Label) -> Result<(), OutOfMemory>
-        ensures { OnOk result ((labels syms : List Text) (l : Text) → label labels syms l ≡ target → Expands labels syms (op.Jmp l) (between self.old) (between self.new)) }
+        ensures { OnOk result ((labels syms : List Text) (l : Text) → label labels syms l ≡ target
+            → Expands labels syms (op.Jmp l) (between self.old) (between self.new)) }
     {
         self.add(alloc, Transfer::Goto(target))?;
         self.close(alloc)
@@ -191,7 +202,8 @@ impl Expansion {
     #[tactic(auto, using(crate::proofs::Steps::br_is))]
     fn branch_on(&mut self, alloc: Global, relation: Rel, target: Label) -> Result<(), OutOfMemory>
         requires { 2 ≤ length self.old.stack.items }
-        ensures { OnOk result ((labels syms : List Text) (l : Text) → label labels syms l ≡ target → Expands labels syms (op.Br relation l) (between self.old) (between self.new)) }
+        ensures { OnOk result ((labels syms : List Text) (l : Text) → label labels syms l ≡ target
+            → Expands labels syms (op.Br relation l) (between self.old) (between self.new)) }
     {
         let right = self.pop();
         let left = self.pop();
@@ -203,7 +215,8 @@ impl Expansion {
     #[tactic(auto, using(crate::proofs::Steps::arg_is))]
     fn set_argument(&mut self, alloc: Global, number: u8) -> Result<(), OutOfMemory>
         requires { 1 ≤ length self.old.stack.items }
-        ensures { OnOk result ((labels syms : List Text) → Expands labels syms (op.Arg number) (between self.old) (between self.new)) }
+        ensures { OnOk result
+            ((labels syms : List Text) → Expands labels syms (op.Arg number) (between self.old) (between self.new)) }
     {
         let value = self.pop();
         self.add(alloc, Transfer::Set(Reg::Arg(number), virt(value)))
@@ -212,7 +225,8 @@ impl Expansion {
     #[tactic(auto, using(crate::proofs::Steps::call_is))]
     fn call(&mut self, alloc: Global, function: Sym, count: u8) -> Result<(), OutOfMemory>
         requires { self.old.next < 2 ^ 32 - 1 }
-        ensures { OnOk result ((labels syms : List Text) (f : Text) → symbol labels syms f ≡ function → Expands labels syms (op.Call f count) (between self.old) (between self.new)) }
+        ensures { OnOk result ((labels syms : List Text) (f : Text) → symbol labels syms f ≡ function
+            → Expands labels syms (op.Call f count) (between self.old) (between self.new)) }
     {
         self.add(alloc, Transfer::Call(function, count))?;
         self.close(alloc)?;
@@ -222,7 +236,8 @@ impl Expansion {
     #[tactic(auto, using(crate::proofs::Steps::ret_is))]
     fn leave(&mut self, alloc: Global) -> Result<(), OutOfMemory>
         requires { 1 ≤ length self.old.stack.items }
-        ensures { OnOk result ((labels syms : List Text) → Expands labels syms op.Ret (between self.old) (between self.new)) }
+        ensures { OnOk result
+            ((labels syms : List Text) → Expands labels syms op.Ret (between self.old) (between self.new)) }
     {
         let value = self.pop();
         self.add(alloc, Transfer::Set(Reg::Rv, virt(value)))?;

@@ -47,7 +47,8 @@ fn blocks(
     expansion.finish(alloc)
 }
 
-/// The naive code of a unit that the language allows (docs/LANGUAGE.md, "Naive code"), or want of memory. The time is linear in the unit.
+/// The naive code of a unit that the language allows (docs/LANGUAGE.md, "Naive code"), or want of memory. The time is
+/// linear in the unit.
 #[tactic(auto, using(crate::proofs::Codes::unit_code))]
 pub fn expand(alloc: Global, u: &Unit) -> Result<UnitCode, OutOfMemory>
     requires { IsUnit u.now }

@@ -1,5 +1,6 @@
 -- Registers as keys of a set.
-use Rattle.std.proofs.Common.{◌≡◌, ℕ, ◌+◌, ◌<◌, Bool, true, false, List, [], ◌∷◌, length, take, slice_index_or, refl, sym, ◌∙◌, ap, arith}
+use Rattle.std.proofs.Common.{◌≡◌, ℕ, ◌+◌, ◌<◌, Bool, true, false, List, [], ◌∷◌, length, take, slice_index_or, refl}
+use Rattle.std.proofs.Common.{sym, ◌∙◌, ap, arith}
 use Rattle.std.specs.Prelude.{◌||◌, cond}
 use Rattle.std.specs.List.{list_any}
 use Rattle.std.specs.Ordering.{is_eq, nat_cmp}
@@ -44,10 +45,14 @@ any_key q [] = refl
 any_key q (k ∷ ks) = rw (key_eq q k, any_key q ks)
 
 -- what a set has after r is put in
-pub key_put : (r : Register) (s n : BTreeSet Register) → Updates cmp-value.it s n r true → (q : Register) → list_any (reg_eq q) n.keys ≡ (reg_eq r q || list_any (reg_eq q) s.keys)
-key_put r s n u q = sym (any_key q n.keys) ∙ u.0 q ∙ ap (λ b. cond b true (list_any (is_at (cmp-value.it q)) s.keys)) (key_eq r q) ∙ in_or (reg_eq r q) ∙ ap (λ b. reg_eq r q || b) (any_key q s.keys)
+pub key_put : (r : Register) (s n : BTreeSet Register) → Updates cmp-value.it s n r true → (q : Register)
+    → list_any (reg_eq q) n.keys ≡ (reg_eq r q || list_any (reg_eq q) s.keys)
+key_put r s n u q =
+    sym (any_key q n.keys) ∙ u.0 q ∙ ap (λ b. cond b true (list_any (is_at (cmp-value.it q)) s.keys)) (key_eq r q)
+    ∙ in_or (reg_eq r q) ∙ ap (λ b. reg_eq r q || b) (any_key q s.keys)
   where
-    in_or : (b : Bool) → cond b true (list_any (is_at (cmp-value.it q)) s.keys) ≡ (b || list_any (is_at (cmp-value.it q)) s.keys)
+    in_or : (b : Bool)
+        → cond b true (list_any (is_at (cmp-value.it q)) s.keys) ≡ (b || list_any (is_at (cmp-value.it q)) s.keys)
     in_or true = refl
     in_or false = refl
 
@@ -58,12 +63,17 @@ or_comm false true = refl
 or_comm false false = refl
 
 -- the keys of one more register of a list
-pub keys_more : (rs : List Register) (i : ℕ) (r : Register) (s n : BTreeSet Register) → i < length rs → r ≡ slice_index_or rs i r → ((q : Register) → list_any (reg_eq q) n.keys ≡ (reg_eq r q || list_any (reg_eq q) s.keys))
-    → ((q : Register) → list_any (reg_eq q) s.keys ≡ has_reg (take i rs) q) → (q : Register) → list_any (reg_eq q) n.keys ≡ has_reg (take (i + 1) rs) q
+pub keys_more : (rs : List Register) (i : ℕ) (r : Register) (s n : BTreeSet Register) → i < length rs
+    → r ≡ slice_index_or rs i r
+    → ((q : Register) → list_any (reg_eq q) n.keys ≡ (reg_eq r q || list_any (reg_eq q) s.keys))
+    → ((q : Register) → list_any (reg_eq q) s.keys ≡ has_reg (take i rs) q) → (q : Register)
+    → list_any (reg_eq q) n.keys ≡ has_reg (take (i + 1) rs) q
 keys_more rs i r s n h e p was q =
     p q ∙ ap (λ b. reg_eq r q || b) (was q) ∙ or_comm (reg_eq r q) (has_reg (take i rs) q)
     ∙ ap (λ k. has_reg (take i rs) q || reg_eq k q) e ∙ sym (list_any_more (λ k. reg_eq k q) rs i r h)
 
-pub set_holds : (s : BTreeSet Register) (l : LiveVars) → ((q : Register) → list_any (reg_eq q) s.keys ≡ has_reg l.regs.items q) → (q : Var) → in_set (record { regs = s; cc = l.cc }) q ≡ holds l q
+pub set_holds : (s : BTreeSet Register) (l : LiveVars)
+    → ((q : Register) → list_any (reg_eq q) s.keys ≡ has_reg l.regs.items q) → (q : Var)
+    → in_set (record { regs = s; cc = l.cc }) q ≡ holds l q
 set_holds s l e (Reg r) = e r
 set_holds s l e Cc = refl

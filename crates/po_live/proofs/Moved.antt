@@ -9,11 +9,13 @@ use Rattle.po_term.specs.declared.transfer.Transfer.{Transfer}
 use Rattle.po_term.specs.declared.transfer.Instr.{Instr}
 use Rattle.po_term.specs.Moves.{move_of, moves_of, instr_of, instrs_of, PlainMove, PlainInstr}
 
-pub any_move : (f : PlainMove → Bool) (xs : List Transfer) → list_any f (moves_of xs) ≡ list_any (λ t. f (move_of t)) xs
+pub any_move : (f : PlainMove → Bool) (xs : List Transfer)
+    → list_any f (moves_of xs) ≡ list_any (λ t. f (move_of t)) xs
 any_move f [] = refl
 any_move f (x ∷ xs) = ap (λ b. f (move_of x) || b) (any_move f xs)
 
-pub any_instr : (f : PlainInstr → Bool) (xs : List Instr) → list_any f (instrs_of xs) ≡ list_any (λ x. f (instr_of x)) xs
+pub any_instr : (f : PlainInstr → Bool) (xs : List Instr)
+    → list_any f (instrs_of xs) ≡ list_any (λ x. f (instr_of x)) xs
 any_instr f [] = refl
 any_instr f (x ∷ xs) = ap (λ b. f (instr_of x) || b) (any_instr f xs)
 
@@ -31,9 +33,13 @@ any_back p (x ∷ xs) =
     ∙ or_turned (list_any p (reverse xs)) (p x)
     ∙ ap (λ b. p x || b) (any_back p xs)
 
-pub any_instr_back : (f : PlainInstr → Bool) (xs : List Instr) → list_any f (instrs_of xs) ≡ list_any (λ x. f (instr_of x)) (reverse xs)
+pub any_instr_back : (f : PlainInstr → Bool) (xs : List Instr)
+    → list_any f (instrs_of xs) ≡ list_any (λ x. f (instr_of x)) (reverse xs)
 any_instr_back f xs = any_instr f xs ∙ sym (any_back (λ x. f (instr_of x)) xs)
 
 -- the same at the end of a loop
-pub all_moves_seen : (f : PlainMove → Bool) (xs : List Transfer) (i : ℕ) → i ≡ length xs → list_any (λ t. f (move_of t)) (take i xs) ≡ list_any f (moves_of xs)
-all_moves_seen f xs i e = ap (λ (ys : List Transfer). list_any (λ t. f (move_of t)) ys) (ap (λ j. take j xs) e ∙ take-length xs) ∙ sym (any_move f xs)
+pub all_moves_seen : (f : PlainMove → Bool) (xs : List Transfer) (i : ℕ) → i ≡ length xs
+    → list_any (λ t. f (move_of t)) (take i xs) ≡ list_any f (moves_of xs)
+all_moves_seen f xs i e =
+    ap (λ (ys : List Transfer). list_any (λ t. f (move_of t)) ys) (ap (λ j. take j xs) e ∙ take-length xs)
+    ∙ sym (any_move f xs)

@@ -1,4 +1,5 @@
--- What is live at the start of a block and is due to be passed on to the blocks before it; and how much is still to be found.
+-- What is live at the start of a block and is due to be passed on to the blocks before it; and how much is still to be
+-- found.
 use Rattle.std.specs.Prelude.{ℕ, zero, suc, ◌+◌, ◌==◌, Bool, false, ◌&&◌, if◌then◌else◌, List, [], ◌∷◌, map}
 use Rattle.std.specs.List.{list_any}
 use Rattle.po_term.specs.declared.term.Reg.{Reg as Register}

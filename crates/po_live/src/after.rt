@@ -27,7 +27,8 @@ fn push_live(after: &mut Vec<Live>, live: Live) -> Result<(), OutOfMemory>
 }
 
 fn put(regs: &mut BTreeSet<Reg>, r: Reg) -> Result<(), OutOfMemory>
-    ensures { OnOk result ((q : Register) → list_any (reg_eq q) regs.new.keys ≡ (reg_eq r q || list_any (reg_eq q) regs.old.keys)) }
+    ensures { OnOk result
+        ((q : Register) → list_any (reg_eq q) regs.new.keys ≡ (reg_eq r q || list_any (reg_eq q) regs.old.keys)) }
 {
     match regs.insert(r) {
         Ok(_) => Ok(()),

@@ -1,6 +1,8 @@
-//! Whether `cc` is live after each instruction, with one flag for each and no sets of registers. Where no block reads `cc` before it
-//! sets it, as in naive code, `cc` is live at the end of no block, and two walks back through each block are all the work.
-ghost use Rattle.std.specs.Prelude.{◌≡◌, ◌<◌, ◌↔◌, ◌||◌, ◌&&◌, not, true, false, ℕ, List, IfOk, OnOk, map, length, ◌++◌, ◌∷◌, []};
+//! Whether `cc` is live after each instruction, with one flag for each and no sets of registers. Where no block reads
+//! `cc` before it sets it, as in naive code, `cc` is live at the end of no block, and two walks back through each
+//! block are all the work.
+ghost use Rattle.std.specs.Prelude.{◌≡◌, ◌<◌, ◌↔◌, ◌||◌, ◌&&◌, not, true, false, ℕ, List, IfOk, OnOk, map, length};
+ghost use Rattle.std.specs.Prelude.{◌++◌, ◌∷◌, []};
 ghost use Rattle.std.specs.List.{list_any};
 ghost use Rattle.po_term.specs.Moves.{move_of, moves_of, instr_of, instrs_of, PlainInstr};
 ghost use Rattle.po_model.specs.declared.var.Var.TheVariants.{Cc};
@@ -92,7 +94,8 @@ fn none(alloc: Global, n: usize) -> Result<Vec<bool>, OutOfMemory>
 pub fn cc_ends(alloc: Global, blocks: &[Block]) -> Result<Vec<bool>, OutOfMemory>
     ensures len { IfOk result (λ out. length out.items ≡ length blocks.now) }
     ensures live { IfOk result (λ out. (b : ℕ) (xs : List PlainInstr) →
-        (cc_before xs (flag_at out.items b) ≡ true) ↔ IsRead (map block_of blocks.now) Cc (record { block = b; rest = xs })) }
+        (cc_before xs (flag_at out.items b) ≡ true)
+        ↔ IsRead (map block_of blocks.now) Cc (record { block = b; rest = xs })) }
 {
     if some_reads_first(blocks) {
         let sets = live_out(alloc, blocks)?;

@@ -1,10 +1,12 @@
 //! Which block may follow which. Labels are looked up in a table that is made once.
-ghost use Rattle.std.specs.Prelude.{◌≡◌, ◌++◌, ◌∷◌, [], ◌==◌, ◌<◌, ℕ, suc, OnOk, IfOk, IfSome, not, true, false, ◌||◌, ◌&&◌, map, length, nat_lt, if◌then◌else◌};
+ghost use Rattle.std.specs.Prelude.{◌≡◌, ◌++◌, ◌∷◌, [], ◌==◌, ◌<◌, ℕ, suc, OnOk, IfOk, IfSome, not, true, false, ◌||◌};
+ghost use Rattle.std.specs.Prelude.{◌&&◌, map, length, nat_lt, if◌then◌else◌};
 ghost use Rattle.std.specs.Ordering.{nat_cmp};
 ghost use Rattle.std.specs.BTreeMap.{get};
 ghost use Rattle.po_term.specs.declared.term.Label.{Label as Mark};
 ghost use Rattle.po_term.specs.Moves.{moves_of, instrs_of};
-ghost use Rattle.po_model.specs.Blocks.{block_of, block_ending, block_with, target_by, goes_on, has_label, is_at, leads};
+ghost use Rattle.po_model.specs.Blocks.{block_of, block_ending, block_with, target_by, goes_on, has_label, is_at};
+ghost use Rattle.po_model.specs.Blocks.{leads};
 ghost use Rattle.po_live.specs.Flow.{exit_by, pred_at, exit_target, exit_next, exit_leads};
 ghost use Rattle.po_model.specs.Parts.{ending_of};
 
@@ -59,7 +61,8 @@ fn block_exit(xs: &[Instr]) -> Exit
 type Labels = BTreeMap<u32, usize>;
 
 fn put(first: &mut Labels, number: u32, b: usize) -> Result<(), OutOfMemory>
-    ensures { OnOk result ((k : ℕ) → get nat_cmp first.new k ≡ (if k == number then Some b else get nat_cmp first.old k)) }
+    ensures { OnOk result
+        ((k : ℕ) → get nat_cmp first.new k ≡ (if k == number then Some b else get nat_cmp first.old k)) }
 {
     match first.insert(number, b) {
         Ok(_) => Ok(()),
@@ -68,7 +71,8 @@ fn put(first: &mut Labels, number: u32, b: usize) -> Result<(), OutOfMemory>
 }
 
 fn put_label(first: &mut Labels, label: Option<Label>, b: usize) -> Result<(), OutOfMemory>
-    ensures { OnOk result ((l : Mark) → get nat_cmp first.new l.0 ≡ (if has_label l label then Some b else get nat_cmp first.old l.0)) }
+    ensures { OnOk result
+        ((l : Mark) → get nat_cmp first.new l.0 ≡ (if has_label l label then Some b else get nat_cmp first.old l.0)) }
 {
     match label {
         Some(l) => put(first, l.0, b),
@@ -78,7 +82,8 @@ fn put_label(first: &mut Labels, label: Option<Label>, b: usize) -> Result<(), O
 
 /// The first block of each label.
 fn labels(alloc: Global, blocks: &[Block]) -> Result<Labels, OutOfMemory>
-    ensures table { IfOk result (λ first. (l : Mark) → get nat_cmp first l.0 ≡ block_with (map block_of blocks.now) l) }
+    ensures table { IfOk result
+        (λ first. (l : Mark) → get nat_cmp first l.0 ≡ block_with (map block_of blocks.now) l) }
     ensures below { IfOk result (λ first. (k q : ℕ) → get nat_cmp first k ≡ Some q → q < length blocks.now) }
 {
     let mut first = BTreeMap::new(alloc);
@@ -171,7 +176,8 @@ fn add_edges(
     requires here { b < length preds.old }
     requires below { (k q : ℕ) → get nat_cmp first.now k ≡ Some q → q < length preds.old }
     ensures { OnOk result ((q p : ℕ) → pred_at preds.new q p
-        ≡ ((exit_leads first.now (length preds.old) (exit_by (block_ending (instrs_of block.now.instrs.items))) b q && b == p) || pred_at preds.old q p)) }
+        ≡ ((exit_leads first.now (length preds.old) (exit_by (block_ending (instrs_of block.now.instrs.items))) b q
+        && b == p) || pred_at preds.old q p)) }
 {
     let exit = block_exit(&block.instrs);
     let n = preds.len();
@@ -182,7 +188,8 @@ fn add_edges(
 /// For each block those that it may follow.
 pub fn predecessors(alloc: Global, blocks: &[Block]) -> Result<Vec<Vec<usize>>, OutOfMemory>
     ensures len { IfOk result (λ preds. length preds.items ≡ length blocks.now) }
-    ensures leads { IfOk result (λ preds. (q p : ℕ) → pred_at preds.items q p ≡ (nat_lt p (length blocks.now) && leads (map block_of blocks.now) p q)) }
+    ensures leads { IfOk result (λ preds.
+        (q p : ℕ) → pred_at preds.items q p ≡ (nat_lt p (length blocks.now) && leads (map block_of blocks.now) p q)) }
 {
     let first = labels(alloc, blocks)?;
     let mut preds = empty_lists(alloc, blocks.len())?;

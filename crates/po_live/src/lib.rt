@@ -1,9 +1,9 @@
 //! What is live after each instruction of a code (docs/OPTIMISER.md, "Liveness").
 //!
-//! `graph` says which block may follow which; `uses` walks back through instructions; `solve` finds what is live at the ends of
-//! blocks, and only that goes from block to block; `after` then walks back through each block once. `parts` puts the same into one
-//! list, and needs `solve` only where something is live at the start of a block. `sets` holds what is live at one place; `cc` does
-//! the same for `cc` alone, by flags.
+//! `graph` says which block may follow which; `uses` walks back through instructions; `solve` finds what is live at
+//! the ends of blocks, and only that goes from block to block; `after` then walks back through each block once.
+//! `parts` puts the same into one list, and needs `solve` only where something is live at the start of a block. `sets`
+//! holds what is live at one place; `cc` does the same for `cc` alone, by flags.
 #![tactic(auto)]
 
 ghost use Rattle.std.specs.Prelude.{◌≡◌, ◌<◌, ◌↔◌, ℕ, IsTrue, IfOk, length};
@@ -38,13 +38,14 @@ pub struct Lives {
     pub after: Vec<Vec<Live>>,
 }
 
-/// What is live after each instruction of a code in which a control transfer stands only in the last instruction of a block, or
-/// want of memory: each register and `cc` that some path from there reads before it sets it, and `fp`, which is live everywhere and
-/// so is in each set (docs/OPTIMISER.md, "Liveness").
+/// What is live after each instruction of a code in which a control transfer stands only in the last instruction of a
+/// block, or want of memory: each register and `cc` that some path from there reads before it sets it, and `fp`, which
+/// is live everywhere and so is in each set (docs/OPTIMISER.md, "Liveness").
 pub fn live_after(alloc: Global, c: &Code) -> Result<Lives, OutOfMemory>
     requires { IsCode (code_of c.now) }
     ensures blocks { IfOk result (λ l. length l.after.items ≡ length (code_of c.now)) }
-    ensures lengths { IfOk result (λ l. (b : ℕ) → length (lives_at l.after.items b) ≡ length (instrs_at (code_of c.now) b)) }
+    ensures lengths { IfOk result
+        (λ l. (b : ℕ) → length (lives_at l.after.items b) ≡ length (instrs_at (code_of c.now) b)) }
     ensures live { IfOk result (λ l. (b i : ℕ) (v : Var) → i < length (instrs_at (code_of c.now) b)
         → IsTrue (holds_at (lives_at l.after.items b) i v) ↔ LiveAfter (code_of c.now) b i v) }
 {
@@ -75,11 +76,12 @@ pub struct CcLives {
     pub after: Vec<Vec<bool>>,
 }
 
-/// Whether `cc` is live after each instruction of a code, or want of memory: what `live_after` says of `cc`, for less work
-/// (docs/OPTIMISER.md, "Liveness").
+/// Whether `cc` is live after each instruction of a code, or want of memory: what `live_after` says of `cc`, for less
+/// work (docs/OPTIMISER.md, "Liveness").
 pub fn cc_live_after(alloc: Global, c: &Code) -> Result<CcLives, OutOfMemory>
     ensures blocks { IfOk result (λ l. length l.after.items ≡ length (code_of c.now)) }
-    ensures lengths { IfOk result (λ l. (b : ℕ) → length (flags_at l.after.items b) ≡ length (instrs_at (code_of c.now) b)) }
+    ensures lengths { IfOk result
+        (λ l. (b : ℕ) → length (flags_at l.after.items b) ≡ length (instrs_at (code_of c.now) b)) }
     ensures live { IfOk result (λ l. (b i : ℕ) → i < length (instrs_at (code_of c.now) b)
         → IsTrue (flag_at (flags_at l.after.items b) i) ↔ LiveAfter (code_of c.now) b i Cc) }
 {

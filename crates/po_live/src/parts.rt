@@ -4,7 +4,8 @@
 //! Each block is walked back through once, from an end where nothing is live. Where something turns out to be live at
 //! the start of a block, what is live at the ends of the blocks has to be found first (`solve`), and each block is
 //! walked back through from there.
-ghost use Rattle.std.specs.Prelude.{◌≡◌, ◌<◌, ◌≤◌, ◌-◌, ◌++◌, ◌∷◌, [], ◌||◌, not, ℕ, suc, OnOk, IfOk, IfSome, length, map, slice_index_or};
+ghost use Rattle.std.specs.Prelude.{◌≡◌, ◌<◌, ◌≤◌, ◌-◌, ◌++◌, ◌∷◌, [], ◌||◌, not, ℕ, suc, OnOk, IfOk, IfSome, length};
+ghost use Rattle.std.specs.Prelude.{map, slice_index_or};
 ghost use Rattle.std.specs.List.{list_any};
 ghost use Rattle.po_term.specs.Moves.{instrs_of};
 ghost use Rattle.po_term.specs.Simplified.{reg_eq};
@@ -12,7 +13,8 @@ ghost use Rattle.po_term.specs.declared.term.Reg.TheVariants.{Fp};
 ghost use Rattle.po_model.specs.declared.var.Var.{Var as Variable};
 ghost use Rattle.po_model.specs.Blocks.{block_of, instrs_at};
 ghost use Rattle.po_live.specs.Sets.{holds, holds_at, has_reg, back, nothing, is_fp};
-ghost use Rattle.po_live.specs.Parts.{live_in, part_tells, tells, blocks_in, parts_in, IsLiveList, IsGrown, IsListTo, NoneCross};
+ghost use Rattle.po_live.specs.Parts.{live_in, part_tells, tells, blocks_in, parts_in, IsLiveList, IsGrown, IsListTo};
+ghost use Rattle.po_live.specs.Parts.{NoneCross};
 
 use crate::sets::{LiveVars, empty, has_reg};
 use crate::uses::{begin, step_with_fp};
@@ -94,7 +96,8 @@ fn put_part(list: &mut LiveList, live: &LiveVars) -> Result<(), OutOfMemory>
     ensures regs { OnOk result (list.new.regs.items ≡ list.old.regs.items ++ live.now.regs.items) }
     ensures parts { OnOk result (list.new.parts.items
         ≡ list.old.parts.items
-        ++ (record { from = length list.old.regs.items; to = length list.new.regs.items; has_cc = live.now.cc }) ∷ []) }
+        ++ (record { from = length list.old.regs.items; to = length list.new.regs.items; has_cc = live.now.cc })
+        ∷ []) }
     ensures ends { OnOk result (list.new.ends.items ≡ list.old.ends.items) }
 {
     let from = list.regs.len();

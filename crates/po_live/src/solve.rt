@@ -1,6 +1,8 @@
-//! What is live at the ends of blocks. What is live at the start of a block is due to be passed on to the blocks before it; each
-//! register and `cc` is passed on from a block once or twice, and when nothing is due any more the sets are complete.
-ghost use Rattle.std.specs.Prelude.{◌≡◌, ◌==◌, ◌<◌, ◌≤◌, ◌+◌, ℕ, OnOk, IfOk, not, true, false, ◌||◌, ◌&&◌, List, ◌++◌, ◌∷◌, [], map, length, nat_lt, ◌↔◌};
+//! What is live at the ends of blocks. What is live at the start of a block is due to be passed on to the blocks
+//! before it; each register and `cc` is passed on from a block once or twice, and when nothing is due any more the
+//! sets are complete.
+ghost use Rattle.std.specs.Prelude.{◌≡◌, ◌==◌, ◌<◌, ◌≤◌, ◌+◌, ℕ, OnOk, IfOk, not, true, false, ◌||◌, ◌&&◌, List, ◌++◌};
+ghost use Rattle.std.specs.Prelude.{◌∷◌, [], map, length, nat_lt, ◌↔◌};
 ghost use Rattle.po_term.specs.Moves.{instrs_of, PlainInstr};
 ghost use Rattle.po_model.specs.declared.var.Var.{Var as Variable};
 ghost use Rattle.po_model.specs.Blocks.{block_of, instrs_at};
@@ -25,7 +27,8 @@ struct Due {
 
 fn push_due(work: &mut Vec<Due>, block: usize, var: Var) -> Result<(), OutOfMemory>
     ensures items { OnOk result (work.new.items ≡ work.old.items ++ (record { block = block; var = var }) ∷ []) }
-    ensures due { OnOk result ((c : ℕ) (q : Variable) → is_due work.new.items c q ≡ ((block == c && var_eq var q) || is_due work.old.items c q)) }
+    ensures due { OnOk result ((c : ℕ) (q : Variable)
+        → is_due work.new.items c q ≡ ((block == c && var_eq var q) || is_due work.old.items c q)) }
 {
     match work.push(Due { block, var }) {
         Ok(()) => Ok(()),
@@ -36,7 +39,8 @@ fn push_due(work: &mut Vec<Due>, block: usize, var: Var) -> Result<(), OutOfMemo
 /// Puts v into the set at p, and says whether it is new there.
 fn insert_at(out: &mut [LiveVars], p: usize, v: Var) -> Result<bool, OutOfMemory>
     requires { p < length out.old }
-    ensures all { OnOk result ((b : ℕ) (q : Variable) → holds_at out.new b q ≡ ((p == b && var_eq v q) || holds_at out.old b q)) }
+    ensures all { OnOk result
+        ((b : ℕ) (q : Variable) → holds_at out.new b q ≡ ((p == b && var_eq v q) || holds_at out.old b q)) }
     ensures new { IfOk result (λ new. new ≡ not (holds_at out.old p v)) }
 {
     insert(&mut out[p], v)
@@ -60,11 +64,15 @@ fn arrive(
 ) -> Result<(), OutOfMemory>
     requires here { p < length out.old }
     requires blocks { length blocks.now ≡ length out.old }
-    ensures out { OnOk result ((b : ℕ) (q : Variable) → holds_at out.new b q ≡ ((p == b && var_eq v q) || holds_at out.old b q)) }
+    ensures out { OnOk result
+        ((b : ℕ) (q : Variable) → holds_at out.new b q ≡ ((p == b && var_eq v q) || holds_at out.old b q)) }
     ensures work { OnOk result ((b : ℕ) (q : Variable) → is_due work.new.items b q
-        ≡ (((p == b && var_eq v q) && (not (holds_at out.old p v) && not (sets_any (instrs_at (map block_of blocks.now) p) v))) || is_due work.old.items b q)) }
+        ≡ (((p == b && var_eq v q)
+        && (not (holds_at out.old p v) && not (sets_any (instrs_at (map block_of blocks.now) p) v)))
+        || is_due work.old.items b q)) }
     ensures fuel { OnOk result ((us : List Variable) → is_among us v ≡ true
-        → missing_below us (holds_at out.new) (length out.old) + length work.new.items ≤ missing_below us (holds_at out.old) (length out.old) + length work.old.items) }
+        → missing_below us (holds_at out.new) (length out.old) + length work.new.items
+        ≤ missing_below us (holds_at out.old) (length out.old) + length work.old.items) }
 {
     if insert_at(out, p, v)? && !sets_at(blocks, p, v) {
         push_due(work, p, v)?;
@@ -82,11 +90,15 @@ fn spread(
 ) -> Result<(), OutOfMemory>
     requires here { (p : ℕ) → is_in ps.now p ≡ true → p < length out.old }
     requires blocks { length blocks.now ≡ length out.old }
-    ensures out { OnOk result ((b : ℕ) (q : Variable) → holds_at out.new b q ≡ ((is_in ps.now b && var_eq v q) || holds_at out.old b q)) }
+    ensures out { OnOk result
+        ((b : ℕ) (q : Variable) → holds_at out.new b q ≡ ((is_in ps.now b && var_eq v q) || holds_at out.old b q)) }
     ensures work { OnOk result ((b : ℕ) (q : Variable) → is_due work.new.items b q
-        ≡ (((is_in ps.now b && var_eq v q) && (not (holds_at out.old b v) && not (sets_any (instrs_at (map block_of blocks.now) b) v))) || is_due work.old.items b q)) }
+        ≡ (((is_in ps.now b && var_eq v q)
+        && (not (holds_at out.old b v) && not (sets_any (instrs_at (map block_of blocks.now) b) v)))
+        || is_due work.old.items b q)) }
     ensures fuel { OnOk result ((us : List Variable) → is_among us v ≡ true
-        → missing_below us (holds_at out.new) (length out.old) + length work.new.items ≤ missing_below us (holds_at out.old) (length out.old) + length work.old.items) }
+        → missing_below us (holds_at out.new) (length out.old) + length work.new.items
+        ≤ missing_below us (holds_at out.old) (length out.old) + length work.old.items) }
 {
     for p in ps {
         arrive(*p, v, blocks, out, work)?;
@@ -95,7 +107,8 @@ fn spread(
 }
 
 fn push_regs(work: &mut Vec<Due>, b: usize, regs: &[Reg]) -> Result<(), OutOfMemory>
-    ensures { OnOk result ((c : ℕ) (q : Variable) → is_due work.new.items c q ≡ ((b == c && in_regs regs.now q) || is_due work.old.items c q)) }
+    ensures { OnOk result ((c : ℕ) (q : Variable)
+        → is_due work.new.items c q ≡ ((b == c && in_regs regs.now q) || is_due work.old.items c q)) }
 {
     for r in regs {
         push_due(work, b, Var::Reg(*r))?;
@@ -104,7 +117,8 @@ fn push_regs(work: &mut Vec<Due>, b: usize, regs: &[Reg]) -> Result<(), OutOfMem
 }
 
 fn push_cc(work: &mut Vec<Due>, b: usize, cc: bool) -> Result<(), OutOfMemory>
-    ensures { OnOk result ((c : ℕ) (q : Variable) → is_due work.new.items c q ≡ ((b == c && (cc && var_eq Var.Cc q)) || is_due work.old.items c q)) }
+    ensures { OnOk result ((c : ℕ) (q : Variable)
+        → is_due work.new.items c q ≡ ((b == c && (cc && var_eq Var.Cc q)) || is_due work.old.items c q)) }
 {
     if cc {
         push_due(work, b, Var::Cc)?;
@@ -114,7 +128,8 @@ fn push_cc(work: &mut Vec<Due>, b: usize, cc: bool) -> Result<(), OutOfMemory>
 
 /// All of a set are live at the start of the block b.
 fn push_live(work: &mut Vec<Due>, b: usize, live: &LiveVars) -> Result<(), OutOfMemory>
-    ensures { OnOk result ((c : ℕ) (q : Variable) → is_due work.new.items c q ≡ ((b == c && holds live.now q) || is_due work.old.items c q)) }
+    ensures { OnOk result ((c : ℕ) (q : Variable)
+        → is_due work.new.items c q ≡ ((b == c && holds live.now q) || is_due work.old.items c q)) }
 {
     push_regs(work, b, &live.regs)?;
     push_cc(work, b, live.cc)
@@ -167,7 +182,8 @@ fn empty_sets(alloc: Global, n: usize) -> Result<Vec<LiveVars>, OutOfMemory>
 pub fn live_out(alloc: Global, blocks: &[Block]) -> Result<Vec<LiveVars>, OutOfMemory>
     ensures len { IfOk result (λ out. length out.items ≡ length blocks.now) }
     ensures live { IfOk result (λ out. (b : ℕ) (xs : List PlainInstr) (q : Variable) →
-        (back xs (holds_at out.items b) q ≡ true) ↔ IsRead (map block_of blocks.now) q (record { block = b; rest = xs })) }
+        (back xs (holds_at out.items b) q ≡ true)
+        ↔ IsRead (map block_of blocks.now) q (record { block = b; rest = xs })) }
 {
     let preds = predecessors(alloc, blocks)?;
     let mut work = starts(alloc, blocks)?;

@@ -1,4 +1,5 @@
-//! What instructions read and set, and the walk back through them: from what is live behind an instruction to what is live before it.
+//! What instructions read and set, and the walk back through them: from what is live behind an instruction to what is
+//! live before it.
 ghost use Rattle.std.specs.Prelude.{◌≡◌, ℕ, OnOk, IfOk, not, true, false, ◌||◌, ◌&&◌, map, reverse};
 ghost use Rattle.std.specs.List.{list_any};
 ghost use Rattle.po_term.specs.Terms.{tree_of};
@@ -30,7 +31,8 @@ fn read_term(live: &mut LiveVars, t: &Term) -> Result<(), OutOfMemory>
 }
 
 fn read_two(live: &mut LiveVars, x: &Term, y: &Term) -> Result<(), OutOfMemory>
-    ensures { OnOk result ((q : Variable) → holds live.new q ≡ ((term_reads (tree_of x.now) q || term_reads (tree_of y.now) q) || holds live.old q)) }
+    ensures { OnOk result ((q : Variable)
+        → holds live.new q ≡ ((term_reads (tree_of x.now) q || term_reads (tree_of y.now) q) || holds live.old q)) }
 {
     read_term(live, x)?;
     read_term(live, y)
@@ -105,7 +107,8 @@ fn unset_all(live: &mut LiveVars, xs: &[Transfer])
 
 /// Back through an instruction.
 pub fn step(live: &mut LiveVars, x: &Instr) -> Result<(), OutOfMemory>
-    ensures { OnOk result ((q : Variable) → holds live.new q ≡ (reads (instr_of x.now) q || (not (sets (instr_of x.now) q) && holds live.old q))) }
+    ensures { OnOk result ((q : Variable)
+        → holds live.new q ≡ (reads (instr_of x.now) q || (not (sets (instr_of x.now) q) && holds live.old q))) }
 {
     unset_all(live, &x.xs);
     read_all(live, &x.xs)
@@ -123,7 +126,9 @@ pub fn begin(live: &mut LiveVars, out: &LiveVars) -> Result<(), OutOfMemory>
 
 /// Back through an instruction, with `fp` before it too.
 pub fn step_with_fp(live: &mut LiveVars, x: &Instr) -> Result<(), OutOfMemory>
-    ensures { OnOk result ((q : Variable) → holds live.new q ≡ (is_fp q || (reads (instr_of x.now) q || (not (sets (instr_of x.now) q) && holds live.old q)))) }
+    ensures { OnOk result ((q : Variable)
+        → holds live.new q
+        ≡ (is_fp q || (reads (instr_of x.now) q || (not (sets (instr_of x.now) q) && holds live.old q)))) }
 {
     step(live, x)?;
     add(live, Var::Reg(Reg::Fp))
@@ -191,8 +196,9 @@ fn one_of_them_sets(xs: &[Instr], v: Var) -> bool
     xs.iter().rev().any(|x| instr_sets(x, v))
 }
 
-/// Whether one of the instructions sets v. It is asked of what is live behind them, and goes back to the last one that does, over
-/// instructions after which v is live: so all these questions cost no more than the sets that are written down.
+/// Whether one of the instructions sets v. It is asked of what is live behind them, and goes back to the last one that
+/// does, over instructions after which v is live: so all these questions cost no more than the sets that are written
+/// down.
 #[tactic(auto, using(crate::proofs::Moved::any_instr_back))]
 pub fn some_sets(xs: &[Instr], v: Var) -> bool
     ensures { result ≡ sets_any (instrs_of xs.now) v }

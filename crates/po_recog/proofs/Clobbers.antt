@@ -19,7 +19,8 @@ Later = Met ℕ (Option (ℕ × Finds))
 
 -- a marked entry is passed over where cc is live, and another one is the same for both
 step : (c : Bool) (n : ℕ) (found : Met ℕ (Option Finds)) (live dead : Later) → (IsSome live.got → IsSome dead.got)
-    → IsSome (or_later n (if c && true then give {K = ℕ} None else found).got live).got → IsSome (or_later n (if c && false then give {K = ℕ} None else found).got dead).got
+    → IsSome (or_later n (if c && true then give {K = ℕ} None else found).got live).got
+    → IsSome (or_later n (if c && false then give {K = ℕ} None else found).got dead).got
 step true n found live dead later h = go found.got (later h)
   where
     go : (o : Option Finds) → IsSome dead.got → IsSome (or_later n o dead).got
@@ -31,9 +32,13 @@ step false n found live dead later h = go found.got h
     go None h = later h
     go (Some fs) h = refl
 
-first_dead : (es : List Entry) (n : ℕ) (ms : PlainInstr) → IsSome (first_fit code_leaves words true es n ms).got → IsSome (first_fit code_leaves words false es n ms).got
+first_dead : (es : List Entry) (n : ℕ) (ms : PlainInstr) → IsSome (first_fit code_leaves words true es n ms).got
+    → IsSome (first_fit code_leaves words false es n ms).got
 first_dead [] n ms h = h
-first_dead (e ∷ es) n ms h = step e.clobbers n (answered code_leaves words (moves_found code_leaves (pat_moves_of e.pattern) ms)) (first_fit code_leaves words true es (suc n) ms) (first_fit code_leaves words false es (suc n) ms) (first_dead es (suc n) ms) h
+first_dead (e ∷ es) n ms h =
+    step e.clobbers n (answered code_leaves words (moves_found code_leaves (pat_moves_of e.pattern) ms))
+    (first_fit code_leaves words true es (suc n) ms) (first_fit code_leaves words false es (suc n) ms)
+    (first_dead es (suc n) ms) h
 
 pub fits_dead : (m : Machine) (ms : PlainInstr) → IsSome (fit m true ms) → IsSome (fit m false ms)
 fits_dead m ms h = first_dead m.entries 0 ms h

@@ -1,5 +1,6 @@
 -- No entry fits a list that is longer than each pattern.
-use Rattle.std.proofs.Common.{◌≡◌, ℕ, suc, ◌<◌, Bool, true, false, List, [], ◌∷◌, Option, Some, None, length, refl, ap, ◌∙◌, arith}
+use Rattle.std.proofs.Common.{◌≡◌, ℕ, suc, ◌<◌, Bool, true, false, List, [], ◌∷◌, Option, Some, None, length, refl, ap}
+use Rattle.std.proofs.Common.{◌∙◌, arith}
 use Rattle.std.specs.Prelude.{◌&&◌, if◌then◌else◌}
 use Rattle.std.proofs.lemmas.List.{length-map}
 use Rattle.po_term.specs.Moves.{PlainInstr}
@@ -21,11 +22,14 @@ none_found (p ∷ ps) (m ∷ ms) h =
     ap (λ found. both (move_found code_leaves p m) found) (none_found ps ms (omega arith))
     ∙ nothing_behind (move_found code_leaves p m)
 
-entry_none : (e : Entry) (cc_live : Bool) (ms : PlainInstr) → moves_found code_leaves (pat_moves_of e.pattern) ms ≡ None
+entry_none : (e : Entry) (cc_live : Bool) (ms : PlainInstr)
+    → moves_found code_leaves (pat_moves_of e.pattern) ms ≡ None
     → (entry_fit code_leaves words cc_live e ms).got ≡ None
 entry_none e cc_live ms none = go (e.clobbers && cc_live)
   where
-    go : (b : Bool) → (if b then give {K = ℕ} None else answered code_leaves words (moves_found code_leaves (pat_moves_of e.pattern) ms)).got ≡ None
+    go : (b : Bool)
+        → (if b then give {K = ℕ} None
+        else answered code_leaves words (moves_found code_leaves (pat_moves_of e.pattern) ms)).got ≡ None
     go true = refl
     go false = rw none refl
 
@@ -34,7 +38,8 @@ none_first : (cc_live : Bool) (es : List Entry) (n : ℕ) (ms : PlainInstr) → 
 none_first cc_live [] n ms long = refl
 none_first cc_live (e ∷ es) n ms long =
     let later = none_first cc_live es (suc n) ms (omega arith) in
-    rw (entry_none e cc_live ms (none_found (pat_moves_of e.pattern) ms (omega (arith, length-map e.pattern pat_move_of)))) later
+    rw (entry_none e cc_live ms
+    (none_found (pat_moves_of e.pattern) ms (omega (arith, length-map e.pattern pat_move_of)))) later
 
 -- what is longer than the longest entry fits none
 pub none_fits : (m : Machine) (index : Index) (cc_live : Bool) (ms : PlainInstr) → IsIndexOf m index

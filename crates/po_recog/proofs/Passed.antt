@@ -28,7 +28,8 @@ use Rattle.po_recog.specs.declared.head.Form.TheVariants as form
 use Rattle.po_recog.specs.declared.head.Head.{Head}
 use Rattle.po_recog.specs.declared.head.Head.TheVariants as head
 use Rattle.po_recog.specs.Heads.{pattern_outer, pattern_inner, term_outer, term_inner}
-use Rattle.po_recog.specs.Heads.{pat_move_head, move_head, pat_moves_head, moves_head, entry_head}
+use Rattle.po_recog.specs.Heads.{pat_move_head, move_head, pat_moves_head, moves_head}
+use Rattle.po_recog.specs.Heads.{head_number, list_number, entry_number}
 use Rattle.po_recog.specs.Operands.{operands_in}
 use Rattle.po_recog.proofs.Limits.{both_there}
 
@@ -297,13 +298,13 @@ pub nothing_found : (ps : List PatMove) (ms : PlainInstr)
     → (pat_moves_head ps ≡ moves_head ms → ⊥) → moves_found code_leaves ps ms ≡ None
 nothing_found ps ms other = none_there (moves_found code_leaves ps ms) (λ h. other (moves_same ps ms h))
 
--- an entry with another head doesn't fit
-pub passed_over : (e : Entry) (cc_live : Bool) (ms : PlainInstr) (h g : Head)
-    → h ≡ entry_head e → g ≡ moves_head ms → (h ≡ g → ⊥)
+-- an entry whose head has another number doesn't fit
+pub passed_over : (e : Entry) (cc_live : Bool) (ms : PlainInstr) (h g : ℕ)
+    → h ≡ entry_number e → g ≡ list_number ms → (h ≡ g → ⊥)
     → None ≡ option_map operands_in (entry_fit code_leaves words cc_live e ms).got
 passed_over e cc_live ms h g of_entry of_list other =
     go (e.clobbers && cc_live) (moves_found code_leaves (pat_moves_of e.pattern) ms)
-    (nothing_found (pat_moves_of e.pattern) ms (λ same. other (of_entry ∙ (same ∙ sym of_list))))
+    (nothing_found (pat_moves_of e.pattern) ms (λ same. other (of_entry ∙ (ap head_number same ∙ sym of_list))))
   where
     go : (b : Bool) (found : Option Finds) → found ≡ None
         → None ≡ option_map operands_in (if b then give {K = ℕ} None else answered code_leaves words found).got

@@ -19,7 +19,8 @@ use Rattle.po_model.specs.Parts.{code_leaves}
 abbrev Finds : Type 0
 Finds = List (Found ℕ Register Symbol)
 
-and_on-assoc : (o : Option Slots) (f g : Slots → Option Slots) → and_on (and_on o f) g ≡ and_on o (λ ss. and_on (f ss) g)
+and_on-assoc : (o : Option Slots) (f g : Slots → Option Slots)
+    → and_on (and_on o f) g ≡ and_on o (λ ss. and_on (f ss) g)
 and_on-assoc None f g = refl
 and_on-assoc (Some ss) f g = refl
 
@@ -51,28 +52,45 @@ taken-single f ss = whole (taken_one f ss)
     whole (Some us) = refl
 
 -- the first walk's answer and then the second's
-pub walked : (a b : Bool) (x y : Option Finds) (ss us vs : Slots) → outcome a us ≡ taken_if x ss → outcome b vs ≡ taken_if y us → a ≡ true → outcome b vs ≡ taken_if (both x y) ss
-walked a b x y ss us vs h i e = i ∙ ap (λ o. and_on o (taken_if y)) (sym (ap (λ c. outcome c us) e) ∙ h) ∙ sym (taken-both x y ss)
+pub walked : (a b : Bool) (x y : Option Finds) (ss us vs : Slots) → outcome a us ≡ taken_if x ss
+    → outcome b vs ≡ taken_if y us → a ≡ true → outcome b vs ≡ taken_if (both x y) ss
+walked a b x y ss us vs h i e =
+    i ∙ ap (λ o. and_on o (taken_if y)) (sym (ap (λ c. outcome c us) e) ∙ h) ∙ sym (taken-both x y ss)
 
-pub stopped : (a : Bool) (x y : Option Finds) (ss us : Slots) → outcome a us ≡ taken_if x ss → a ≡ false → None ≡ taken_if (both x y) ss
-stopped a x y ss us h e = ap (λ o. and_on o (taken_if y)) (sym (ap (λ c. outcome c us) e) ∙ h) ∙ sym (taken-both x y ss)
+pub stopped : (a : Bool) (x y : Option Finds) (ss us : Slots) → outcome a us ≡ taken_if x ss → a ≡ false
+    → None ≡ taken_if (both x y) ss
+stopped a x y ss us h e =
+    ap (λ o. and_on o (taken_if y)) (sym (ap (λ c. outcome c us) e) ∙ h) ∙ sym (taken-both x y ss)
 
 pattern_binary : (o : Bin) (p v : PatTerm) → pattern_of (pattern.Bin o p v) ≡ Binary o (pattern_of p) (pattern_of v)
 unfolding roll-PatTerm roll
 pattern_binary o p v = fold-roll-PatTerm PatTree layer_of (PatTerm-F.Bin o p v)
 
 -- two operands behind one operator
-pub binary_walked : (o q : Bin) (same a b : Bool) (p v : PatTerm) (t u : Tree ℕ Place) (ss us vs : Slots) → same ≡ bin_eq o q → same ≡ true → outcome a us ≡ taken_if (tree_found code_leaves (pattern_of p) t) ss → outcome b vs ≡ taken_if (tree_found code_leaves (pattern_of v) u) us → a ≡ true → outcome b vs ≡ taken_if (tree_found code_leaves (pattern_of (pattern.Bin o p v)) (Binary q t u)) ss
+pub binary_walked : (o q : Bin) (same a b : Bool) (p v : PatTerm) (t u : Tree ℕ Place) (ss us vs : Slots)
+    → same ≡ bin_eq o q → same ≡ true → outcome a us ≡ taken_if (tree_found code_leaves (pattern_of p) t) ss
+    → outcome b vs ≡ taken_if (tree_found code_leaves (pattern_of v) u) us → a ≡ true
+    → outcome b vs ≡ taken_if (tree_found code_leaves (pattern_of (pattern.Bin o p v)) (Binary q t u)) ss
 binary_walked o q same a b p v t u ss us vs s e h i f =
     let one : bin_eq o q ≡ true = sym s ∙ e in
-    let both_walked : outcome b vs ≡ taken_if (tree_found code_leaves (Binary o (pattern_of p) (pattern_of v)) (Binary q t u)) ss = rw one (walked a b (tree_found code_leaves (pattern_of p) t) (tree_found code_leaves (pattern_of v) u) ss us vs h i f) in
-    both_walked ∙ ap (λ (x : PatTree). taken_if (tree_found code_leaves x (Binary q t u)) ss) (sym (pattern_binary o p v))
+    let both_walked : outcome b vs
+    ≡ taken_if (tree_found code_leaves (Binary o (pattern_of p) (pattern_of v)) (Binary q t u)) ss =
+    rw one (walked a b (tree_found code_leaves (pattern_of p) t) (tree_found code_leaves (pattern_of v) u) ss us vs h
+    i f) in
+    both_walked
+    ∙ ap (λ (x : PatTree). taken_if (tree_found code_leaves x (Binary q t u)) ss) (sym (pattern_binary o p v))
 
-pub binary_stopped : (o q : Bin) (same a : Bool) (p v : PatTerm) (t u : Tree ℕ Place) (ss us : Slots) → same ≡ bin_eq o q → same ≡ true → outcome a us ≡ taken_if (tree_found code_leaves (pattern_of p) t) ss → a ≡ false → None ≡ taken_if (tree_found code_leaves (pattern_of (pattern.Bin o p v)) (Binary q t u)) ss
+pub binary_stopped : (o q : Bin) (same a : Bool) (p v : PatTerm) (t u : Tree ℕ Place) (ss us : Slots)
+    → same ≡ bin_eq o q → same ≡ true → outcome a us ≡ taken_if (tree_found code_leaves (pattern_of p) t) ss
+    → a ≡ false → None ≡ taken_if (tree_found code_leaves (pattern_of (pattern.Bin o p v)) (Binary q t u)) ss
 binary_stopped o q same a p v t u ss us s e h f =
     let one : bin_eq o q ≡ true = sym s ∙ e in
-    let first_stopped : None ≡ taken_if (tree_found code_leaves (Binary o (pattern_of p) (pattern_of v)) (Binary q t u)) ss = rw one (stopped a (tree_found code_leaves (pattern_of p) t) (tree_found code_leaves (pattern_of v) u) ss us h f) in
-    first_stopped ∙ ap (λ (x : PatTree). taken_if (tree_found code_leaves x (Binary q t u)) ss) (sym (pattern_binary o p v))
+    let first_stopped : None
+    ≡ taken_if (tree_found code_leaves (Binary o (pattern_of p) (pattern_of v)) (Binary q t u)) ss =
+    rw one (stopped a (tree_found code_leaves (pattern_of p) t) (tree_found code_leaves (pattern_of v) u) ss us h f)
+    in
+    first_stopped
+    ∙ ap (λ (x : PatTree). taken_if (tree_found code_leaves x (Binary q t u)) ss) (sym (pattern_binary o p v))
 
 pub nothing_behind : (x : Option Finds) → both x None ≡ None
 nothing_behind None = refl

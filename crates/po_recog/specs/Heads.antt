@@ -1,9 +1,10 @@
--- The head of a list of transfers, which is compared first: its one transfer's kind, and the forms of its terms.
-use Rattle.std.specs.Prelude.{List, [], ◌∷◌}
+-- The head of a list of transfers: its one transfer's kind, and the forms of its terms. Heads are compared by number.
+use Rattle.std.specs.Prelude.{ℕ, ◌+◌, ◌*◌, List, [], ◌∷◌}
 use Rattle.po_term.specs.Tree.{Tree, Const, Leaf, Read, Unary, Binary}
 use Rattle.po_term.specs.Terms.{Place, InReg, AtSym, PlainTerm}
 use Rattle.po_term.specs.Moves.{PlainMove, PlainInstr, SetTo, CcTo, StoreTo, Ends, GoTo, IfCc, IfTwo, CallOf, Return}
 use Rattle.po_model.specs.declared.machine.Entry.{Entry}
+use Rattle.po_model.specs.Operators.{un_place, bin_place, rel_place}
 use Rattle.po_model.specs.Patterns.{PatLeaf, InPatReg, AtSymbol, PatTree, PatMove, pat_moves_of}
 use Rattle.po_model.specs.Patterns.{SetsTo, Compares, Stores, Jumps, Branches, BranchesOn, Calls, Returns}
 use Rattle.po_recog.specs.declared.head.Form.{Form}
@@ -86,3 +87,36 @@ pat_moves_head ps = list_head pat_move_head ps
 -- the head of an entry's pattern
 abbrev pub entry_head : Entry → Head
 entry_head e = pat_moves_head (pat_moves_of e.pattern)
+
+-- the number of a form, below 1024
+abbrev pub form_number : Form → ℕ
+form_number form.Num = 0
+form_number form.Reg = 1
+form_number form.Addr = 2
+form_number form.Mem = 3
+form_number (form.Un o) = 4 + un_place o
+form_number (form.Bin o) = 6 + bin_place o
+
+-- the number of this kind of transfers, with terms of these forms
+abbrev pub two_number : ℕ → Form → Form → ℕ
+two_number kind f g = (kind * 1024 + form_number f) * 1024 + form_number g
+
+-- the number of a head
+abbrev pub head_number : Head → ℕ
+head_number head.Nothing = 0
+head_number head.Several = 1
+head_number head.Goto = 2
+head_number head.Call = 3
+head_number head.Ret = 4
+head_number (head.IfCc r) = 5 + rel_place r
+head_number (head.Set f g) = two_number 1 f g
+head_number (head.Cc f g) = two_number 2 f g
+head_number (head.Store f g) = two_number 3 f g
+head_number (head.IfTwo f g) = two_number 4 f g
+
+-- the number of a list's head, and of an entry's
+abbrev pub list_number : PlainInstr → ℕ
+list_number ms = head_number (moves_head ms)
+
+abbrev pub entry_number : Entry → ℕ
+entry_number e = head_number (entry_head e)

@@ -1,4 +1,5 @@
--- What a list of transfers has that an entry fits: it is as long, and its terms are as large, as those of an instruction may be.
+-- What a list of transfers has that an entry fits: it is as long, and its terms are as large, as those of an
+-- instruction may be.
 use Rattle.std.specs.Prelude.{ℕ, ◌≤◌, Bool, length, All, IsSome, ⊤}
 use Rattle.po_term.specs.Tree.{Tree, tree_size, tree_depth}
 use Rattle.po_term.specs.Terms.{Place}
@@ -30,4 +31,5 @@ pub record IsWithinLimits (ms : PlainInstr) : Type 0 where
 
 -- what an entry of a machine fits is within the limits
 abbrev pub FitsWithinLimits : Type 0
-FitsWithinLimits = (m : Machine) (cc_live : Bool) (ms : PlainInstr) → IsMachine m → IsSome (fit m cc_live ms) → IsWithinLimits ms
+FitsWithinLimits =
+    (m : Machine) (cc_live : Bool) (ms : PlainInstr) → IsMachine m → IsSome (fit m cc_live ms) → IsWithinLimits ms

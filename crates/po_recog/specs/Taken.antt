@@ -1,5 +1,6 @@
 -- The operands that are filled on the way through a pattern, and what each thing that is found there makes of them.
-use Rattle.std.specs.Prelude.{ℕ, Bool, true, false, ◌==◌, if◌then◌else◌, List, [], ◌∷◌, Option, Some, None, slice_get, slice_set}
+use Rattle.std.specs.Prelude.{ℕ, Bool, true, false, ◌==◌, if◌then◌else◌, List, [], ◌∷◌, Option, Some, None, slice_get}
+use Rattle.std.specs.Prelude.{slice_set}
 use Rattle.po_word.specs.Exprs.{Within, is_so}
 use Rattle.po_word.specs.Words.{signed}
 use Rattle.po_term.specs.declared.term.Reg.{Reg as Register}

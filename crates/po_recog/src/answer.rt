@@ -20,6 +20,7 @@ pub enum Operand {
 pub struct Fit {
     /// Its number in the description, counted from 0.
     pub entry: u32,
-    /// Ten: what `%0` to `%9`, `#0` to `#9`, `&0` to `&9` or `@0` to `@9` stands for, and None at a digit that the pattern doesn't have.
+    /// Ten: what `%0` to `%9`, `#0` to `#9`, `&0` to `&9` or `@0` to `@9` stands for, and None at a digit that the
+    /// pattern doesn't have.
     pub operands: Vec<Option<Operand>>,
 }

@@ -1,10 +1,13 @@
-//! The head of a list of transfers, which an index keeps of each entry: where two heads differ, the entry doesn't fit.
-ghost use Rattle.std.specs.Prelude.{◌≡◌, Bool, false};
+//! The head of a list of transfers, whose number an index keeps of each entry: where two numbers differ, so do the
+//! heads, and the entry doesn't fit.
+ghost use Rattle.std.specs.Prelude.{◌≡◌, ◌<◌};
 ghost use Rattle.po_term.specs.Terms.{tree_of};
 ghost use Rattle.po_term.specs.Moves.{move_of, moves_of};
 ghost use Rattle.po_model.specs.Patterns.{pattern_of, pat_move_of, pat_moves_of};
 ghost use Rattle.po_recog.specs.Heads.{term_outer, term_inner, pattern_outer, pattern_inner};
 ghost use Rattle.po_recog.specs.Heads.{move_head, pat_move_head, moves_head, pat_moves_head};
+ghost use Rattle.po_model.specs.Operators.{un_place, bin_place, rel_place};
+ghost use Rattle.po_recog.specs.Heads.{form_number, two_number, head_number};
 
 use po_model::{PatCond, PatTerm, PatTransfer};
 use po_term::{Cond, Term, Transfer};
@@ -21,8 +24,8 @@ pub(crate) enum Form {
     Bin(Bin),
 }
 
-/// What a list of transfers is told by: the kind of its one transfer, with the forms of its two terms. What a register is
-/// set to has its own form, and that of what is read or of a second operand.
+/// What a list of transfers is told by: the kind of its one transfer, with the forms of its two terms. What a register
+/// is set to has its own form, and that of what is read or of a second operand.
 #[derive(Clone, Copy, Debug, PartialEq, Eq)]
 pub(crate) enum Head {
     Nothing,
@@ -37,11 +40,62 @@ pub(crate) enum Head {
     Ret,
 }
 
-/// Whether two heads are the same.
-pub(crate) fn is_same(a: Head, b: Head) -> bool
-    ensures { result ≡ false → a ≡ b → ⊥ }
+fn un_place(o: Un) -> u8
+    ensures { result ≡ un_place o }
 {
-    a == b
+    o as u8
+}
+
+fn bin_place(o: Bin) -> u8
+    ensures { result ≡ bin_place o }
+{
+    o as u8
+}
+
+fn rel_place(r: Rel) -> u8
+    ensures { result ≡ rel_place r }
+{
+    r as u8
+}
+
+fn form_number(f: Form) -> u32
+    ensures number { result ≡ form_number f }
+    ensures small { result < 1024 }
+{
+    match f {
+        Form::Num => 0,
+        Form::Reg => 1,
+        Form::Addr => 2,
+        Form::Mem => 3,
+        Form::Un(o) => 4 + u32::from(un_place(o)),
+        Form::Bin(o) => 6 + u32::from(bin_place(o)),
+    }
+}
+
+/// The number of this kind of transfers, with terms of these forms.
+fn two_number(kind: u32, f: Form, g: Form) -> u32
+    requires { kind < 8 }
+    ensures { result ≡ two_number kind f g }
+{
+    (kind * 1024 + form_number(f)) * 1024 + form_number(g)
+}
+
+/// The number of a head.
+pub(crate) fn number_of(h: Head) -> u32
+    ensures { result ≡ head_number h }
+{
+    match h {
+        Head::Nothing => 0,
+        Head::Several => 1,
+        Head::Goto => 2,
+        Head::Call => 3,
+        Head::Ret => 4,
+        Head::IfCc(r) => 5 + u32::from(rel_place(r)),
+        Head::Set(f, g) => two_number(1, f, g),
+        Head::Cc(f, g) => two_number(2, f, g),
+        Head::Store(f, g) => two_number(3, f, g),
+        Head::IfTwo(f, g) => two_number(4, f, g),
+    }
 }
 
 fn outer(t: &Term) -> Form

@@ -1,5 +1,5 @@
-//! An index of a machine's entries: the head of each, made once, so that an entry with another head is passed over without a
-//! look at its pattern. Entries are still tried in order.
+//! An index of a machine's entries: the head of each, made once, so that an entry with another head is passed over
+//! without a look at its pattern. Entries are still tried in order.
 ghost use Rattle.std.specs.Prelude.{◌≡◌, ◌<◌, ◌^◌, ◌++◌, ◌∷◌, [], length, map, max, IfOk, OnOk, is_some};
 ghost use Rattle.std.specs.Option.{option_map};
 ghost use Rattle.po_term.specs.Moves.{moves_of};
@@ -8,10 +8,10 @@ ghost use Rattle.po_model.specs.Fit.{entry_fit, first_fit, fit};
 ghost use Rattle.po_model.specs.Parts.{code_leaves};
 ghost use Rattle.po_recog.specs.Operands.{operands_in, fit_from, fit_of};
 ghost use Rattle.po_recog.specs.Taken.{outcome};
-ghost use Rattle.po_recog.specs.Heads.{entry_head, moves_head};
+ghost use Rattle.po_recog.specs.Heads.{entry_number, list_number};
 ghost use Rattle.po_recog.specs.Indexes.{IsIndexOf, most_transfers, found_with};
 
-use crate::head::{Head, head_of, head_of_pattern, is_same};
+use crate::head::{head_of, head_of_pattern, number_of};
 use crate::walk::takes_moves;
 use crate::{Fit, Operand};
 use po_model::{Entry, Machine};
@@ -22,16 +22,16 @@ use std::alloc::Global;
 /// The heads of a machine's entries, and how many transfers the longest has (docs/DESCRIPTION.md, "What fits").
 #[derive(Drop)]
 pub struct Index {
-    heads: Vec<Head>,
+    heads: Vec<u32>,
     most: usize,
 }
 
-fn heads_of(alloc: Global, entries: &[Entry]) -> Result<Vec<Head>, OutOfMemory>
-    ensures { IfOk result (λ heads. heads.items ≡ map entry_head entries.now) }
+fn heads_of(alloc: Global, entries: &[Entry]) -> Result<Vec<u32>, OutOfMemory>
+    ensures { IfOk result (λ heads. heads.items ≡ map entry_number entries.now) }
 {
     let mut heads = Vec::new(alloc);
     for e in entries {
-        push(&mut heads, head_of_pattern(e.pattern.as_slice()))?;
+        push(&mut heads, number_of(head_of_pattern(e.pattern.as_slice())))?;
     }
     Ok(heads)
 }
@@ -84,37 +84,37 @@ fn fills(e: &Entry, xs: &[Transfer], cc_live: bool, slots: &mut [Option<Operand>
     takes_moves(e.pattern.as_slice(), xs, slots)
 }
 
-/// The same as `fills`, where the entry has the head h and the list the head g.
+/// The same as `fills`, where h is the number of the entry's head and g that of the list's.
 fn fills_by(
     e: &Entry,
-    h: Head,
-    g: Head,
+    h: u32,
+    g: u32,
     xs: &[Transfer],
     cc_live: bool,
     slots: &mut [Option<Operand>; 10],
 ) -> bool
-    requires entry { h ≡ entry_head e.now }
-    requires list { g ≡ moves_head (moves_of xs.now) }
+    requires entry { h ≡ entry_number e.now }
+    requires list { g ≡ list_number (moves_of xs.now) }
     ensures { outcome result slots.new
         ≡ option_map operands_in (entry_fit code_leaves words cc_live e.now (moves_of xs.now)).got }
 {
-    is_same(h, g) && fills(e, xs, cc_live, slots)
+    h == g && fills(e, xs, cc_live, slots)
 }
 
 /// The number of the first entry that fits, with its operands in the slots.
 fn first_by(
     entries: &[Entry],
-    heads: &[Head],
+    heads: &[u32],
     xs: &[Transfer],
     cc_live: bool,
     slots: &mut [Option<Operand>; 10],
 ) -> Option<u32>
     requires few { length entries.now < 2 ^ 32 }
-    requires heads { heads.now ≡ map entry_head entries.now }
+    requires heads { heads.now ≡ map entry_number entries.now }
     ensures { found_with result slots.new
         ≡ option_map fit_from (first_fit code_leaves words cc_live entries.now 0 (moves_of xs.now)).got }
 {
-    let head = head_of(xs);
+    let head = number_of(head_of(xs));
     let mut number = 0;
     for e in entries {
         if fills_by(e, heads[number as usize], head, xs, cc_live, slots) {
@@ -123,6 +123,22 @@ fn first_by(
         number += 1;
     }
     None
+}
+
+/// `recognise` by an index of the machine, without memory: the number of the entry, and its ten operands in `slots`
+/// (docs/DESCRIPTION.md, "What fits"). Where no entry fits the slots hold nothing that counts.
+pub fn recognise_in(
+    m: &Machine,
+    index: &Index,
+    xs: &[Transfer],
+    cc_live: bool,
+    slots: &mut [Option<Operand>; 10],
+) -> Option<u32>
+    requires few { length m.now.entries < 2 ^ 32 }
+    requires index { IsIndexOf m.now index.now }
+    ensures { found_with result slots.new ≡ option_map fit_from (fit m.now cc_live (moves_of xs.now)) }
+{
+    first_by(m.entries.as_slice(), &index.heads, xs, cc_live, slots)
 }
 
 /// `recognise` by an index of the machine (docs/DESCRIPTION.md, "What fits").
@@ -135,10 +151,11 @@ pub fn recognise_by(
 ) -> Result<Option<Fit>, OutOfMemory>
     requires few { length m.now.entries < 2 ^ 32 }
     requires index { IsIndexOf m.now index.now }
-    ensures { IfOk result (λ found. option_map fit_of found ≡ option_map fit_from (fit m.now cc_live (moves_of xs.now))) }
+    ensures { IfOk result
+        (λ found. option_map fit_of found ≡ option_map fit_from (fit m.now cc_live (moves_of xs.now))) }
 {
     let mut slots = [None; 10];
-    match first_by(m.entries.as_slice(), &index.heads, xs, cc_live, &mut slots) {
+    match recognise_in(m, index, xs, cc_live, &mut slots) {
         None => Ok(None),
         Some(entry) => {
             let operands = Vec::from_slice(alloc, &slots)?;
@@ -148,8 +165,8 @@ pub fn recognise_by(
 }
 
 /// The first entry of a machine that fits a list of transfers, where `cc_live` says whether `cc` is live behind them
-/// (docs/DESCRIPTION.md, "What fits"). None exactly where no entry fits. The machine has fewer than 2^32 entries. It makes
-/// an index of its own: for many lists make one, and call `recognise_by`. It fails only where memory is refused.
+/// (docs/DESCRIPTION.md, "What fits"). None exactly where no entry fits. The machine has fewer than 2^32 entries. It
+/// makes an index of its own: for many lists make one, and call `recognise_by`. It fails only where memory is refused.
 pub fn recognise(
     alloc: Global,
     m: &Machine,
@@ -157,7 +174,8 @@ pub fn recognise(
     cc_live: bool,
 ) -> Result<Option<Fit>, OutOfMemory>
     requires { length m.now.entries < 2 ^ 32 }
-    ensures { IfOk result (λ found. option_map fit_of found ≡ option_map fit_from (fit m.now cc_live (moves_of xs.now))) }
+    ensures { IfOk result
+        (λ found. option_map fit_of found ≡ option_map fit_from (fit m.now cc_live (moves_of xs.now))) }
 {
     let index = Index::new(alloc, m)?;
     recognise_by(alloc, m, &index, xs, cc_live)

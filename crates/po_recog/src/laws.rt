@@ -11,7 +11,8 @@ pub fn fits_while_cc_is_dead()
     ensures { (m : Machine) (ms : PlainInstr) → IsSome (fit m true ms) → IsSome (fit m false ms) }
 {}
 
-/// A law, and no work: what an entry of a machine that a description may tell of fits is within the limits of instructions.
+/// A law, and no work: what an entry of a machine that a description may tell of fits is within the limits of
+/// instructions.
 pub fn fits_within_limits()
     ensures { FitsWithinLimits }
 {}

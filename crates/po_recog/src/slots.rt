@@ -1,5 +1,5 @@
-//! The ten operands that are filled on the way through a pattern. At its first place an operand is written down, and a later one is
-//! compared with it.
+//! The ten operands that are filled on the way through a pattern. At its first place an operand is written down, and a
+//! later one is compared with it.
 ghost use Rattle.std.specs.Prelude.{◌≡◌};
 ghost use Rattle.po_word.specs.Exprs.{Within, is_so};
 ghost use Rattle.po_recog.specs.Taken.{same_operand, lies_in, put, outcome};
@@ -38,7 +38,8 @@ fn is_in(range: Option<Bounds>, x: Operand) -> bool
     }
 }
 
-/// Whether the operand at the digit k may be x: it lies in the range, if this is its first place, and else is what stands there.
+/// Whether the operand at the digit k may be x: it lies in the range, if this is its first place, and else is what
+/// stands there.
 pub(crate) fn takes(slots: &mut [Option<Operand>], k: u8, range: Option<Bounds>, x: Operand) -> bool
     ensures { outcome result slots.new ≡ put k range x slots.old }
 {

@@ -1,5 +1,5 @@
-//! The way through a pattern and an instruction together: where they have one structure, each operand and number of the pattern is
-//! taken as it comes.
+//! The way through a pattern and an instruction together: where they have one structure, each operand and number of
+//! the pattern is taken as it comes.
 ghost use Rattle.std.specs.Prelude.{◌≡◌, Some};
 ghost use Rattle.po_term.specs.Terms.{tree_of};
 ghost use Rattle.po_term.specs.Moves.{Ends, branch_of, move_of, moves_of};
@@ -45,7 +45,8 @@ fn takes_register(p: PatReg, r: Reg, slots: &mut [Option<Operand>]) -> bool
 
 #[tactic(auto, using(crate::proofs::Walks::walked, crate::proofs::Walks::stopped))]
 fn takes_term(p: &PatTerm, t: &Term, slots: &mut [Option<Operand>]) -> bool
-    ensures { outcome result slots.new ≡ taken_if (tree_found code_leaves (pattern_of p.now) (tree_of t.now)) slots.old }
+    ensures { outcome result slots.new
+        ≡ taken_if (tree_found code_leaves (pattern_of p.now) (tree_of t.now)) slots.old }
 {
     match (p, t) {
         (PatTerm::Reg(p), Term::Reg(r)) => takes_register(*p, *r, slots),
@@ -66,7 +67,10 @@ fn takes_term(p: &PatTerm, t: &Term, slots: &mut [Option<Operand>]) -> bool
 
 #[tactic(auto, using(crate::proofs::Walks::walked, crate::proofs::Walks::stopped))]
 fn takes_two(p: &PatTerm, q: &PatTerm, t: &Term, u: &Term, slots: &mut [Option<Operand>]) -> bool
-    ensures { outcome result slots.new ≡ taken_if (both (tree_found code_leaves (pattern_of p.now) (tree_of t.now)) (tree_found code_leaves (pattern_of q.now) (tree_of u.now))) slots.old }
+    ensures { outcome result slots.new
+        ≡ taken_if
+        (both (tree_found code_leaves (pattern_of p.now) (tree_of t.now))
+        (tree_found code_leaves (pattern_of q.now) (tree_of u.now))) slots.old }
 {
     takes_term(p, t, slots) && takes_term(q, u, slots)
 }
@@ -81,7 +85,8 @@ fn takes_branch(
     l: Label,
     slots: &mut [Option<Operand>],
 ) -> bool
-    ensures { outcome result slots.new ≡ taken_if (move_found code_leaves (pat.branch_of p.now r k) (Ends (branch_of c.now s l))) slots.old }
+    ensures { outcome result slots.new
+        ≡ taken_if (move_found code_leaves (pat.branch_of p.now r k) (Ends (branch_of c.now s l))) slots.old }
 {
     if !same_rel(r, s) {
         return false;
@@ -97,7 +102,8 @@ fn takes_branch(
 
 #[tactic(auto, using(crate::proofs::Walks::walked, crate::proofs::Walks::stopped))]
 fn takes_move(p: &PatTransfer, x: &Transfer, slots: &mut [Option<Operand>]) -> bool
-    ensures { outcome result slots.new ≡ taken_if (move_found code_leaves (pat_move_of p.now) (move_of x.now)) slots.old }
+    ensures { outcome result slots.new
+        ≡ taken_if (move_found code_leaves (pat_move_of p.now) (move_of x.now)) slots.old }
 {
     match (p, x) {
         (PatTransfer::Set(p, q), Transfer::Set(r, t)) => {
@@ -122,7 +128,8 @@ pub(crate) fn takes_moves(
     xs: &[Transfer],
     slots: &mut [Option<Operand>],
 ) -> bool
-    ensures { outcome result slots.new ≡ taken_if (moves_found code_leaves (pat_moves_of ps.now) (moves_of xs.now)) slots.old }
+    ensures { outcome result slots.new
+        ≡ taken_if (moves_found code_leaves (pat_moves_of ps.now) (moves_of xs.now)) slots.old }
 {
     match ps {
         [] => xs.is_empty(),

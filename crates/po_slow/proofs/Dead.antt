@@ -30,19 +30,24 @@ module _ (live : Var → Bool) where
   pub dead_cc : (ms : PlainInstr) → is_dead live ms ≡ true → live Cc ≡ true → cc_of ms ≡ None
   dead_cc [] h l = refl
   dead_cc (SetTo r t ∷ ms) h l = dead_cc ms (and_parts (not (live (Reg r))) (is_dead live ms) h).1 l
-  dead_cc (CcTo t u ∷ ms) h l = absurd (false≢true (sym (not-true (live Cc) (and_parts (not (live Cc)) (is_dead live ms) h).0) ∙ l))
+  dead_cc (CcTo t u ∷ ms) h l =
+      absurd (false≢true (sym (not-true (live Cc) (and_parts (not (live Cc)) (is_dead live ms) h).0) ∙ l))
   dead_cc (StoreTo t u ∷ ms) h l = absurd (false≢true h)
   dead_cc (Ends e ∷ ms) h l = absurd (false≢true h)
 
-  pub dead_right : (q : Register) (ms : PlainInstr) → is_dead live ms ≡ true → live (Reg q) ≡ true → right_at code_leaves (InReg q) ms ≡ None
+  pub dead_right : (q : Register) (ms : PlainInstr) → is_dead live ms ≡ true → live (Reg q) ≡ true
+      → right_at code_leaves (InReg q) ms ≡ None
   dead_right q [] h l = refl
-  dead_right q (SetTo r t ∷ ms) h l = go (reg_eq q r) refl (dead_right q ms (and_parts (not (live (Reg r))) (is_dead live ms) h).1 l)
+  dead_right q (SetTo r t ∷ ms) h l =
+      go (reg_eq q r) refl (dead_right q ms (and_parts (not (live (Reg r))) (is_dead live ms) h).1 l)
     where
       dead : live (Reg r) ≡ false
       dead = not-true (live (Reg r)) (and_parts (not (live (Reg r))) (is_dead live ms) h).0
 
-      go : (b : Bool) → reg_eq q r ≡ b → right_at code_leaves (InReg q) ms ≡ None → (if b then Some t else right_at code_leaves (InReg q) ms) ≡ None
-      go true e ih = absurd (false≢true (sym dead ∙ sym (ap (λ (x : Register). live (Reg x)) (one_register q r e)) ∙ l))
+      go : (b : Bool) → reg_eq q r ≡ b → right_at code_leaves (InReg q) ms ≡ None
+          → (if b then Some t else right_at code_leaves (InReg q) ms) ≡ None
+      go true e ih =
+          absurd (false≢true (sym dead ∙ sym (ap (λ (x : Register). live (Reg x)) (one_register q r e)) ∙ l))
       go false e ih = ih
   dead_right q (CcTo t u ∷ ms) h l = dead_right q ms (and_parts (not (live Cc)) (is_dead live ms) h).1 l
   dead_right q (StoreTo t u ∷ ms) h l = absurd (false≢true h)
@@ -56,7 +61,8 @@ symbol_unset y (StoreTo t u ∷ ms) = symbol_unset y ms
 symbol_unset y (Ends e ∷ ms) = symbol_unset y ms
 
 -- what is live isn't set, and what isn't set stays
-unset : {A : Type 0} (live : Bool) (o : Option A) → (live ≡ true → o ≡ None) → (live || (not (is_some o) && true)) ≡ true → o ≡ None
+unset : {A : Type 0} (live : Bool) (o : Option A) → (live ≡ true → o ≡ None)
+    → (live || (not (is_some o) && true)) ≡ true → o ≡ None
 unset true o h e = h refl
 unset false None h e = refl
 unset false (Some x) h e = absurd (false≢true e)
@@ -73,6 +79,9 @@ leaves_no_trace live x s h = (
   },
 )
   where
-    place : (q : Place) → matters (λ r. live (Reg r)) x [] q ≡ true → new_word s (right_at code_leaves q x) (s.place q) ≡ s.place q
-    place (InReg r) e = ap (λ o. new_word s o (s.place (InReg r))) (unset (live (Reg r)) (right_at code_leaves (InReg r) x) (dead_right live r x h) e)
+    place : (q : Place) → matters (λ r. live (Reg r)) x [] q ≡ true
+        → new_word s (right_at code_leaves q x) (s.place q) ≡ s.place q
+    place (InReg r) e =
+        ap (λ o. new_word s o (s.place (InReg r)))
+        (unset (live (Reg r)) (right_at code_leaves (InReg r) x) (dead_right live r x h) e)
     place (AtSym y) e = ap (λ o. new_word s o (s.place (AtSym y))) (symbol_unset y x)

@@ -1,7 +1,8 @@
 -- Lists in which nothing stands twice.
 use Rattle.std.proofs.Common.{◌≡◌, ℕ, zero, suc, List, [], ◌∷◌, ◌++◌, refl, sym, arith}
 use Rattle.std.specs.Prelude.{◌≢◌, All, AllPairs, Contains}
-use Rattle.std.proofs.lemmas.List.Elements.{All-nil, All-cons, All-append, All-contains, Contains-append_left, Contains-append_right, Contains-append_cases}
+use Rattle.std.proofs.lemmas.List.Elements.{All-nil, All-cons, All-append, All-contains, Contains-append_left}
+use Rattle.std.proofs.lemmas.List.Elements.{Contains-append_right, Contains-append_cases}
 use Rattle.po_term.proofs.FormLemmas.{pairs_more}
 use mathlib.Core.Logic.{◌⊎◌, inl, inr}
 use Rattle.po_slow.proofs.Onto.{all_split}
@@ -41,7 +42,8 @@ distinct_cons v vs h i = (pairs_more Differ v vs).1 (h, i)
 
 all_differ : (v : ℕ) (vs : List ℕ) → (Contains vs v → ⊥) → All (Differ v) vs
 all_differ v [] h = All-nil (Differ v)
-all_differ v (w ∷ vs) h = All-cons (Differ v) w vs (λ e. h (0, omega arith, sym e)) (all_differ v vs (λ c. h (contains_more w vs v c)))
+all_differ v (w ∷ vs) h =
+    All-cons (Differ v) w vs (λ e. h (0, omega arith, sym e)) (all_differ v vs (λ c. h (contains_more w vs v c)))
 
 pub distinct_split : (vs ws : List ℕ) → IsDistinct (vs ++ ws) → IsDistinct vs × IsDistinct ws × Apart vs ws
 distinct_split [] ws h = (distinct_nil, h, λ v c d. nothing_in v c)
@@ -81,10 +83,14 @@ pub record Parted (before here behind : List ℕ) : Type 0 where
 pub parted : (before here behind : List ℕ) → IsDistinct (before ++ (here ++ behind)) → Parted before here behind
 parted before here behind h =
     let whole = distinct_split before (here ++ behind) h in
-    record { before_here = λ v c d. whole.2 v c (Contains-append_left here behind v d); here_behind = (distinct_split here behind whole.1).2 }
+    record {
+      before_here = λ v c d. whole.2 v c (Contains-append_left here behind v d);
+      here_behind = (distinct_split here behind whole.1).2;
+    }
 
 -- a part of the part in its place
-pub distinct_replaced : (before here other behind : List ℕ) → IsDistinct (before ++ (here ++ behind)) → IsDistinct other → Within other here → IsDistinct (before ++ (other ++ behind))
+pub distinct_replaced : (before here other behind : List ℕ) → IsDistinct (before ++ (here ++ behind))
+    → IsDistinct other → Within other here → IsDistinct (before ++ (other ++ behind))
 distinct_replaced before here other behind h i f =
     let whole = distinct_split before (here ++ behind) h in
     let rest = distinct_split here behind whole.1 in

@@ -7,7 +7,8 @@ use Rattle.po_slow.specs.Passes.{PassesKeepForm}
 use Rattle.po_slow.proofs.Forms.{keeps_formed}
 use Rattle.po_slow.proofs.Straight.{keeps_straight}
 
-no_more : (code scanned : List PlainBlock) → (scanned ≡ code) ⊎ (length (flat scanned) < length (flat code)) → length (flat scanned) ≤ length (flat code)
+no_more : (code scanned : List PlainBlock) → (scanned ≡ code) ⊎ (length (flat scanned) < length (flat code))
+    → length (flat scanned) ≤ length (flat code)
 no_more code scanned (inl e) = let l = ap (λ (c : List PlainBlock). length (flat c)) e in omega (arith, l)
 no_more code scanned (inr h) = omega (arith, h)
 

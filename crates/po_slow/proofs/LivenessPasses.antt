@@ -15,7 +15,8 @@ use Rattle.po_slow.proofs.LivenessCode.{liveness_laws}
 use Rattle.po_slow.proofs.LivenessLast.{told_at_last}
 
 pub make_nothing_live : PassesMakeNothingLive
-make_nothing_live m answer code scanned pairs allowed safe formed s = (by_passes (liveness_laws m allowed) answer safe code scanned pairs formed s).0.live
+make_nothing_live m answer code scanned pairs allowed safe formed s =
+    (by_passes (liveness_laws m allowed) answer safe code scanned pairs formed s).0.live
 
 -- two tests of one fact are one
 pub same_test : {P : Type 0} (a b : Bool) → IsTrue a ↔ P → IsTrue b ↔ P → a ≡ b
@@ -27,10 +28,17 @@ same_test false false h i = refl
 recognised_fit : (m : Machine) (code : List PlainBlock) → IsRecognised code m → AllFit m code
 recognised_fit m code (live, tells, fits) b i c l t =
     let f = fits b i l in
-    subst (λ c. IsSome (fit m c (instr_at i (instrs_at code b)))) (same_test (live b i) c (tells b i l) t) (ap (λ o. is_some o) f.1)
+    subst (λ c. IsSome (fit m c (instr_at i (instrs_at code b)))) (same_test (live b i) c (tells b i l) t)
+    (ap (λ o. is_some o) f.1)
 
-fit_recognised : (m : Machine) (code : List PlainBlock) (live : ℕ → ℕ → Bool) → ((b i : ℕ) → i < length (instrs_at code b) → IsTrue (live b i) ↔ LiveAfter code b i Cc) → AllFit m code → IsRecognised code m
-fit_recognised m code live tells fits = (live, tells, λ b i l. found (fit m (live b i) (instr_at i (instrs_at code b))) (fits b i (live b i) l (tells b i l)))
+fit_recognised : (m : Machine) (code : List PlainBlock) (live : ℕ → ℕ → Bool)
+    → ((b i : ℕ) → i < length (instrs_at code b) → IsTrue (live b i) ↔ LiveAfter code b i Cc) → AllFit m code
+    → IsRecognised code m
+fit_recognised m code live tells fits = (
+  live,
+  tells,
+  λ b i l. found (fit m (live b i) (instr_at i (instrs_at code b))) (fits b i (live b i) l (tells b i l)),
+)
   where
     found : {X : Type 0} (o : Option X) → IsSome o → (x : X) × (o ≡ Some x)
     found None h = absurd (false≢true h)

@@ -18,13 +18,16 @@ use Rattle.po_subst.specs.JoinedMoves.{at_most}
 below : (m n : ℕ) → nat_lt m n ≡ true → m < n
 below m n e = grind (arith, nat_tests)
 
-pub cut_recognised : (m : Machine) (index : Index) (cc_live : Bool) (j : Joint ℕ Place Register Sym) → IsIndexOf m index
-    → (recognised words code_leaves m cc_live (at_most index.most j)).got ≡ (recognised words code_leaves m cc_live j).got
+pub cut_recognised : (m : Machine) (index : Index) (cc_live : Bool) (j : Joint ℕ Place Register Sym)
+    → IsIndexOf m index
+    → (recognised words code_leaves m cc_live (at_most index.most j)).got
+    ≡ (recognised words code_leaves m cc_live j).got
 cut_recognised m index cc_live NotJoined h = refl
 cut_recognised m index cc_live NothingLeft h = refl
 cut_recognised m index cc_live (AsOne ms) h = go (nat_lt index.most (length ms)) refl
   where
     go : (c : Bool) → nat_lt index.most (length ms) ≡ c
-        → (recognised words code_leaves m cc_live (if c then NotJoined else AsOne ms)).got ≡ (recognised words code_leaves m cc_live (AsOne ms)).got
+        → (recognised words code_leaves m cc_live (if c then NotJoined else AsOne ms)).got
+        ≡ (recognised words code_leaves m cc_live (AsOne ms)).got
     go true e = sym (ap (λ found. if_fit ms found) (none_fits m index cc_live ms h (below index.most (length ms) e)))
     go false e = refl

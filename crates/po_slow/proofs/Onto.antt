@@ -22,16 +22,20 @@ module _ {X : Type 0} where
 
   pub all_split : (P : X → Type 0) (xs ys : List X) → All P (xs ++ ys) → All P xs × All P ys
   all_split P [] ys h = (All-nil P, h)
-  all_split P (x ∷ xs) ys h = let ih = all_split P xs ys (All-tail P x (xs ++ ys) h) in (All-cons P x xs (All-head P x (xs ++ ys) h) ih.0, ih.1)
+  all_split P (x ∷ xs) ys h =
+      let ih = all_split P xs ys (All-tail P x (xs ++ ys) h) in
+      (All-cons P x xs (All-head P x (xs ++ ys) h) ih.0, ih.1)
 
   pub all_onto : (P : X → Type 0) (ds xs : List X) → All P (onto ds xs) → All P ds × All P xs
   all_onto P [] xs h = (All-nil P, h)
-  all_onto P (d ∷ ds) xs h = let ih = all_onto P ds (d ∷ xs) h in (All-cons P d ds (All-head P d xs ih.1) ih.0, All-tail P d xs ih.1)
+  all_onto P (d ∷ ds) xs h =
+      let ih = all_onto P ds (d ∷ xs) h in (All-cons P d ds (All-head P d xs ih.1) ih.0, All-tail P d xs ih.1)
 
   pub onto_all : (P : X → Type 0) (ds xs : List X) → All P ds → All P xs → All P (onto ds xs)
   onto_all P [] xs h i = i
   onto_all P (d ∷ ds) xs h i = onto_all P ds (d ∷ xs) (All-tail P d ds h) (All-cons P d xs (All-head P d ds h) i)
 
   -- other elements behind the front
-  pub all_replaced : (P : X → Type 0) (ds xs ys : List X) → (All P xs → All P ys) → All P (onto ds xs) → All P (onto ds ys)
+  pub all_replaced : (P : X → Type 0) (ds xs ys : List X) → (All P xs → All P ys) → All P (onto ds xs)
+      → All P (onto ds ys)
   all_replaced P ds xs ys f h = let two = all_onto P ds xs h in onto_all P ds ys two.0 (f two.1)

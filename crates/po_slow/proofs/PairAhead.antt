@@ -1,5 +1,6 @@
 -- What becomes of the last done instruction and the next one, by what is live after the next one.
-use Rattle.std.proofs.Common.{◌≡◌, ℕ, ◌-◌, ◌<◌, ◌≤◌, ◌||◌, Bool, List, [], ◌∷◌, length, reverse, take, drop, get_or, refl, ap, sym}
+use Rattle.std.proofs.Common.{◌≡◌, ℕ, ◌-◌, ◌<◌, ◌≤◌, ◌||◌, Bool, List, [], ◌∷◌, length, reverse, take, drop, get_or}
+use Rattle.std.proofs.Common.{refl, ap, sym}
 use Rattle.std.proofs.Common.{subst, ◌∙◌, arith}
 use Rattle.po_term.specs.declared.term.Reg.{Reg as Register}
 use Rattle.po_term.specs.declared.transfer.Instr.{Instr}
@@ -26,7 +27,8 @@ pub combined_ahead : (m : Machine) (live : Register → Bool) (cc_live : Bool) (
 combined_ahead m live cc_live d x same cc_same =
     ap (λ c. (combined words code_leaves m live c d x.instr).got) cc_same
     ∙ ap (λ j. (recognised words code_leaves m (x.live Cc) j).got)
-    (joined_same live (is_live_after (pair_with d x)) (x.live Cc) d x.instr (λ r e. same r ∙ (pair_tells d x).regs r e))
+    (joined_same live (is_live_after (pair_with d x)) (x.live Cc) d x.instr
+    (λ r e. same r ∙ (pair_tells d x).regs r e))
 
 -- the two ways to ask whether a register is one of these
 pub has_is_among : (rs : List Register) (r : Register) → has_reg rs r ≡ is_among rs r

@@ -19,7 +19,8 @@ use Rattle.po_slow.proofs.LivenessPass.{Standing}
 use Rattle.po_slow.proofs.LivenessCode.{MakesNothingLive, liveness_laws}
 use Rattle.po_slow.proofs.RunsRead.{alike_self}
 use Rattle.po_slow.proofs.RunsReplace.{AreFormed, Replaces, doing, doing_fits}
-use Rattle.po_slow.proofs.RunsWithin.{OutOf, Within, within_start, within_taken, within_dropped, within_gone, within_one}
+use Rattle.po_slow.proofs.RunsWithin.{OutOf, Within, within_start, within_taken, within_dropped, within_gone}
+use Rattle.po_slow.proofs.RunsWithin.{within_one}
 use Rattle.po_slow.proofs.RunsLeave.{BothStand}
 use Rattle.po_slow.proofs.Blockwise.{each_block}
 use Rattle.po_slow.proofs.RunsBlocks.{RunsAs, runs_join, both_less, both_join, blocks_stand}
@@ -37,18 +38,22 @@ all_formed [] h = All-nil WellFormed
 all_formed (x ∷ xs) h = All-cons WellFormed x xs h.0 (all_formed xs h.1)
 
 -- a fact of each block of two codes, and of blocks that aren't there
-at_all : (P : ℕ → List PlainInstr → List PlainInstr → Type 0) (xs ys : List PlainBlock) → length ys ≡ length xs → ((b : ℕ) → P b [] []) → ((b : ℕ) → b < length xs → P b (instrs_at xs b) (instrs_at ys b)) → (b : ℕ) → P b (instrs_at xs b) (instrs_at ys b)
+at_all : (P : ℕ → List PlainInstr → List PlainInstr → Type 0) (xs ys : List PlainBlock) → length ys ≡ length xs
+    → ((b : ℕ) → P b [] []) → ((b : ℕ) → b < length xs → P b (instrs_at xs b) (instrs_at ys b)) → (b : ℕ)
+    → P b (instrs_at xs b) (instrs_at ys b)
 at_all P [] [] e n h b = n b
 at_all P [] (y ∷ ys) e n h b = absurd (omega (arith, e))
 at_all P (x ∷ xs) [] e n h b = absurd (omega (arith, e))
 at_all P (x ∷ xs) (y ∷ ys) e n h zero = h zero (omega arith)
-at_all P (x ∷ xs) (y ∷ ys) e n h (suc b) = at_all (λ c. P (suc c)) xs ys (omega (arith, e)) (λ c. n (suc c)) (λ c l. h (suc c) (omega (arith, l))) b
+at_all P (x ∷ xs) (y ∷ ys) e n h (suc b) =
+    at_all (λ c. P (suc c)) xs ys (omega (arith, e)) (λ c. n (suc c)) (λ c l. h (suc c) (omega (arith, l))) b
 
 -- A pass
 
 module _ (m : Machine) (allowed : IsMachine m) where
   formed_at : (code : List PlainBlock) → IsFormedCode code → (b : ℕ) → AreFormed (instrs_at code b)
-  formed_at code before b = are_formed (instrs_at code b) (each_block (λ xs. All WellFormed xs) (All-nil WellFormed) code b before.formed)
+  formed_at code before b =
+      are_formed (instrs_at code b) (each_block (λ xs. All WellFormed xs) (All-nil WellFormed) code b before.formed)
 
   ends_at : (code : List PlainBlock) → IsFormedCode code → (b : ℕ) → EndsLast (instrs_at code b)
   ends_at code before b = each_block EndsLast tt code b before.ends_last
@@ -61,7 +66,9 @@ module _ (m : Machine) (allowed : IsMachine m) where
   shrinking = liveness_laws m allowed
 
   -- what was done of a block is what it is after the pass
-  done_within : (code next : List PlainBlock) (b : ℕ) → Within code b (reverse (instrs_at next b)) [] → AreFormed (instrs_at next b) × EndsLast (instrs_at next b) × Replaces (OutOf code b) (instrs_at code b) (instrs_at next b)
+  done_within : (code next : List PlainBlock) (b : ℕ) → Within code b (reverse (instrs_at next b)) []
+      → AreFormed (instrs_at next b) × EndsLast (instrs_at next b)
+      × Replaces (OutOf code b) (instrs_at code b) (instrs_at next b)
   done_within code next b w =
       let e = onto_reverse (instrs_at next b) in (
         subst (λ (xs : List PlainInstr). AreFormed xs) e w.formed,
@@ -69,37 +76,60 @@ module _ (m : Machine) (allowed : IsMachine m) where
         subst (λ (xs : List PlainInstr). Replaces (OutOf code b) (instrs_at code b) xs) e w.same,
       )
 
-  over : (code : List PlainBlock) (live : Told) → IsFormedCode code → Tells code live → (next : List PlainBlock) → map label_of next ≡ map label_of code → ((b : ℕ) → b < length code → Holds code live b (reverse (instrs_at next b)) []) → RunsAs code next × IsFormedCode next
+  over : (code : List PlainBlock) (live : Told) → IsFormedCode code → Tells code live → (next : List PlainBlock)
+      → map label_of next ≡ map label_of code
+      → ((b : ℕ) → b < length code → Holds code live b (reverse (instrs_at next b)) [])
+      → RunsAs code next × IsFormedCode next
   over code live before tells next labels h =
       let long = same_length next code labels in
       let smaller = (shrinking.over code live before tells next labels (λ b l. (h b l).1)).0.live in
       let at = λ (b : ℕ) (l : b < length code). done_within code next b (h b l).0 in
-      let same = at_all (λ b xs ys. Replaces (OutOf code b) xs ys) code next long (λ b s fits. alike_self (OutOf code b) (doing [] s) fits) (λ b l. (at b l).2) in (
+      let same = at_all (λ b xs ys. Replaces (OutOf code b) xs ys) code next long
+      (λ b s fits. alike_self (OutOf code b) (doing [] s) fits) (λ b l. (at b l).2) in (
         record {
           lives = smaller;
-          runs = λ n x y t. both_less next code smaller (run code n x) (run next n y) (blocks_stand code next labels (formed_at code before) (ends_at code before) same n x y t);
+          runs =
+              λ n x y t. both_less next code smaller (run code n x) (run next n y)
+              (blocks_stand code next labels (formed_at code before) (ends_at code before) same n x y t);
         },
         record {
           ends_last = all_blocks EndsLast next (λ b l. (at b (omega (arith, l, long))).1);
-          formed = all_blocks (λ xs. All WellFormed xs) next (λ b l. all_formed (instrs_at next b) (at b (omega (arith, l, long))).0);
+          formed =
+              all_blocks (λ xs. All WellFormed xs) next
+              (λ b l. all_formed (instrs_at next b) (at b (omega (arith, l, long))).0);
         },
       )
 
   runs_laws : Laws m IsFormedCode RunsAs Holds
   runs_laws = record {
     joins = runs_join;
-    start = λ code live before tells b l. (within_start code live tells b (formed_at code before b) (ends_at code before b), shrinking.start code live before tells b l);
+    start =
+        λ code live before tells b l. (
+          within_start code live tells b (formed_at code before b) (ends_at code before b),
+          shrinking.start code live before tells b l,
+        );
     formed = λ code live before tells b d done x xs h. shrinking.formed code live before tells b d done x xs h.1;
-    dropped = λ code live before tells b done x xs h dead. (within_dropped code b done x xs h.0 dead, shrinking.dropped code live before tells b done x xs h.1 dead);
-    taken = λ code live before tells b done x xs h. (within_taken code b done x xs h.0, shrinking.taken code live before tells b done x xs h.1);
-    gone = λ code live before tells b d done x xs h e. (within_gone m code b d done x xs h.0 e, shrinking.gone code live before tells b d done x xs h.1 e);
-    one = λ code live before tells b d done x xs y h e. (within_one m code b d done x xs h.0 allowed y e, shrinking.one code live before tells b d done x xs y h.1 e);
+    dropped =
+        λ code live before tells b done x xs h dead.
+        (within_dropped code b done x xs h.0 dead, shrinking.dropped code live before tells b done x xs h.1 dead);
+    taken =
+        λ code live before tells b done x xs h.
+        (within_taken code b done x xs h.0, shrinking.taken code live before tells b done x xs h.1);
+    gone =
+        λ code live before tells b d done x xs h e.
+        (within_gone m code b d done x xs h.0 e, shrinking.gone code live before tells b d done x xs h.1 e);
+    one =
+        λ code live before tells b d done x xs y h e. (
+          within_one m code b d done x xs h.0 allowed y e,
+          shrinking.one code live before tells b d done x xs y h.1 e,
+        );
     over = over;
   }
 
   -- All passes
 
-  same_result : (scanned : List PlainBlock) (o p : Option Run) → BothStand scanned o p → SameResult scanned (λ r. r) o p
+  same_result : (scanned : List PlainBlock) (o p : Option Run) → BothStand scanned o p
+      → SameResult scanned (λ r. r) o p
   same_result scanned None None t = tt
   same_result scanned (Some x) (Some y) t = record {
     stop = t.stop;
@@ -114,11 +144,13 @@ module _ (m : Machine) (allowed : IsMachine m) where
   same_result scanned (Some x) None t = absurd t
 
   -- from states that agree on what is live at its start, a code runs alike
-  runs_alike : (code : List PlainBlock) → IsFormedCode code → (n : ℕ) (s t : State) (replies : List Reply) → AlikeAtStart code (λ r. r) s t
+  runs_alike : (code : List PlainBlock) → IsFormedCode code → (n : ℕ) (s t : State) (replies : List Reply)
+      → AlikeAtStart code (λ r. r) s t
       → All IsReply replies → BothStand code (run code n (starts s replies)) (run code n (starts t replies))
   runs_alike code formed n s t replies a h =
       blocks_stand code code refl (formed_at code formed) (ends_at code formed)
-      (λ b u fits. alike_self (OutOf code b) (doing (instrs_at code b) u) (doing_fits (instrs_at code b) u (formed_at code formed b) fits))
+      (λ b u fits. alike_self (OutOf code b) (doing (instrs_at code b) u)
+      (doing_fits (instrs_at code b) u (formed_at code formed b) fits))
       n (starts s replies) (starts t replies) (starts_together code s t replies a h)
 
   -- the code before the passes and the code after them from one state, and then the latter from both
@@ -129,7 +161,8 @@ module _ (m : Machine) (allowed : IsMachine m) where
   scanned_runs answer safe code scanned pairs before is n s t replies a h =
       let made = by_passes runs_laws answer safe code scanned pairs before is in
       same_result scanned (run code n (starts s replies)) (run scanned n (starts t replies))
-      (both_join scanned (run code n (starts s replies)) (run scanned n (starts s replies)) (run scanned n (starts t replies))
+      (both_join scanned (run code n (starts s replies)) (run scanned n (starts s replies))
+      (run scanned n (starts t replies))
       (made.0.runs n (starts s replies) (starts s replies) (start_together code s replies a.first h))
       (runs_alike scanned made.1 n s t replies a h))
 

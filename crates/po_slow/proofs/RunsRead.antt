@@ -1,5 +1,7 @@
--- An instruction reads only what is live before it: from two states that agree there it goes on alike, and leaves states that agree.
-use Rattle.std.proofs.Common.{◌≡◌, ℕ, zero, suc, ◌+◌, ◌<◌, ◌^◌, Bool, true, false, [], ◌∷◌, refl, sym, ◌∙◌, ap, subst, arith}
+-- An instruction reads only what is live before it: from two states that agree there it goes on alike, and leaves
+-- states that agree.
+use Rattle.std.proofs.Common.{◌≡◌, ℕ, zero, suc, ◌+◌, ◌<◌, ◌^◌, Bool, true, false, [], ◌∷◌, refl, sym, ◌∙◌, ap, subst}
+use Rattle.std.proofs.Common.{arith}
 use Rattle.std.specs.Prelude.{◌==◌, ◌||◌, nat_lt, if◌then◌else◌, Option, Some, None, ⊤}
 use Rattle.std.specs.Option.{option_map}
 use mathlib.Core.Logic.{◌⊎◌, inl, inr}
@@ -10,7 +12,8 @@ use Rattle.po_term.specs.declared.term.Sym.{Sym}
 use Rattle.po_term.specs.declared.term.Label.{Label}
 use Rattle.po_term.specs.Tree.{Tree, Const, Leaf, Read, Unary, Binary}
 use Rattle.po_term.specs.Terms.{Place, InReg, AtSym, State, IsState, value}
-use Rattle.po_term.specs.Moves.{Ending, GoTo, IfCc, IfTwo, CallOf, Return, SetTo, CcTo, StoreTo, Ends, PlainMove, PlainInstr}
+use Rattle.po_term.specs.Moves.{Ending, GoTo, IfCc, IfTwo, CallOf, Return, SetTo, CcTo, StoreTo, Ends, PlainMove}
+use Rattle.po_term.specs.Moves.{PlainInstr}
 use Rattle.po_term.specs.Form.{WellFormed}
 use Rattle.po_term.specs.Simplified.{reg_eq, same_register}
 use Rattle.po_term.specs.Actions.{MovesHaveWords}
@@ -18,7 +21,8 @@ use Rattle.po_simplify.proofs.Worths.{value_fits}
 use Rattle.po_model.specs.declared.var.Var.{Var}
 use Rattle.po_model.specs.declared.var.Var.TheVariants.{Reg, Cc}
 use Rattle.po_model.specs.Parts.{code_leaves, right_at, cc_of, store_of, ending_of}
-use Rattle.po_model.specs.Effect.{Control, Next, Jump, Called, Returned, Effected, new_word, new_memory, new_cc, after, branch, by_cc, arguments, goes, effect}
+use Rattle.po_model.specs.Effect.{Control, Next, Jump, Called, Returned, Effected, new_word, new_memory, new_cc, after}
+use Rattle.po_model.specs.Effect.{branch, by_cc, arguments, goes, effect}
 use Rattle.po_model.specs.LiveAfter.{is_reg, is_cc, is_arg_of, term_reads, move_reads, move_sets, reads, sets}
 use Rattle.po_subst.proofs.Agreeing.{reg_self}
 use Rattle.po_subst.proofs.Alike.{IsSingle}
@@ -76,7 +80,15 @@ agree_less L M s t h a = record {
 }
 
 pub agree_self : (L : Variables) (s : State) → IsState s → Agree L s s
-agree_self L s fits = record { first = fits; second = fits; memory = λ a. refl; symbols = λ y. refl; registers = λ r l. refl; compared = λ l. refl }
+agree_self L s fits =
+    record {
+      first = fits;
+      second = fits;
+      memory = λ a. refl;
+      symbols = λ y. refl;
+      registers = λ r l. refl;
+      compared = λ l. refl;
+    }
 
 pub agree_joins : (L : Variables) (r s t : State) → Agree L r s → Agree L s t → Agree L r t
 agree_joins L r s t a b = record {
@@ -88,7 +100,8 @@ agree_joins L r s t a b = record {
   compared = λ l. a.compared l ∙ b.compared l;
 }
 
-pub passing_less : (c : Control) (L M : Variables) → ((v : Var) → M v → L v) → (v : Var) → Passing c M v → Passing c L v
+pub passing_less : (c : Control) (L M : Variables) → ((v : Var) → M v → L v) → (v : Var) → Passing c M v
+    → Passing c L v
 passing_less Next L M h v p = h v p
 passing_less (Jump l) L M h v p = h v p
 passing_less (Called f ws) L M h v p = (p.0, h v p.1)
@@ -103,13 +116,18 @@ passing_in (Returned w) L v p = p
 
 pub alike_less : (L M : Variables) → ((v : Var) → M v → L v) → (o p : Option Effected) → Alike L o p → Alike M o p
 alike_less L M h None None a = tt
-alike_less L M h (Some d) (Some e) a = (a.0, agree_less (Passing d.to L) (Passing d.to M) d.state e.state (passing_less d.to L M h) a.1)
+alike_less L M h (Some d) (Some e) a =
+    (a.0, agree_less (Passing d.to L) (Passing d.to M) d.state e.state (passing_less d.to L M h) a.1)
 alike_less L M h None (Some e) a = absurd a
 alike_less L M h (Some d) None a = absurd a
 
 pub alike_joins : (L : Variables) (x y z : Option Effected) → Alike L x y → Alike L y z → Alike L x z
 alike_joins L None None z h k = k
-alike_joins L (Some d) (Some e) (Some f) h k = (h.0 ∙ k.0, agree_joins (Passing d.to L) d.state e.state f.state h.1 (subst (λ (c : Control). Agree (Passing c L) e.state f.state) (sym h.0) k.1))
+alike_joins L (Some d) (Some e) (Some f) h k = (
+  h.0 ∙ k.0,
+  agree_joins (Passing d.to L) d.state e.state f.state h.1
+      (subst (λ (c : Control). Agree (Passing c L) e.state f.state) (sym h.0) k.1),
+)
 alike_joins L (Some d) (Some e) None h k = absurd k
 alike_joins L None (Some e) z h k = absurd h
 alike_joins L (Some d) None z h k = absurd h
@@ -130,11 +148,13 @@ if_fits true v w h k = h
 if_fits false v w h k = k
 
 module _ (s : State) (fits : IsState s) where
-  place_fits : (p : Place) (ms : PlainInstr) → MovesHaveWords ms → new_word s (right_at code_leaves p ms) (s.place p) < 2 ^ 32
+  place_fits : (p : Place) (ms : PlainInstr) → MovesHaveWords ms
+      → new_word s (right_at code_leaves p ms) (s.place p) < 2 ^ 32
   place_fits p [] h = fits.places p
   place_fits p (SetTo r t ∷ ms) h = go (same_register p (InReg r)) (place_fits p ms h.1)
     where
-      go : (b : Bool) → new_word s (right_at code_leaves p ms) (s.place p) < 2 ^ 32 → new_word s (if b then Some t else right_at code_leaves p ms) (s.place p) < 2 ^ 32
+      go : (b : Bool) → new_word s (right_at code_leaves p ms) (s.place p) < 2 ^ 32
+          → new_word s (if b then Some t else right_at code_leaves p ms) (s.place p) < 2 ^ 32
       go true ih = value_fits s fits t h.0
       go false ih = ih
   place_fits p (CcTo t u ∷ ms) h = place_fits p ms h.1
@@ -145,7 +165,8 @@ module _ (s : State) (fits : IsState s) where
   memory_fits [] h a = fits.cells a
   memory_fits (SetTo r t ∷ ms) h a = memory_fits ms h.1 a
   memory_fits (CcTo t u ∷ ms) h a = memory_fits ms h.1 a
-  memory_fits (StoreTo t u ∷ ms) h a = if_fits (a == value s t) (value s u) (s.memory a) (value_fits s fits u h.0.1) (fits.cells a)
+  memory_fits (StoreTo t u ∷ ms) h a =
+      if_fits (a == value s t) (value s u) (s.memory a) (value_fits s fits u h.0.1) (fits.cells a)
   memory_fits (Ends e ∷ ms) h a = memory_fits ms h.1 a
 
   pub after_fits : (ms : PlainInstr) → MovesHaveWords ms → IsState (after s ms)
@@ -161,7 +182,8 @@ module _ (s : State) (fits : IsState s) where
 -- What is read
 
 -- two states that agree on memory and symbols
-module _ (s t : State) (memory : (a : ℕ) → s.memory a ≡ t.memory a) (symbols : (y : Sym) → s.place (AtSym y) ≡ t.place (AtSym y)) where
+module _ (s t : State) (memory : (a : ℕ) → s.memory a ≡ t.memory a)
+    (symbols : (y : Sym) → s.place (AtSym y) ≡ t.place (AtSym y)) where
   abbrev pub SameAt : Variables
   SameAt (Reg r) = s.place (InReg r) ≡ t.place (InReg r)
   SameAt Cc = s.cc ≡ t.cc
@@ -181,7 +203,9 @@ module _ (s t : State) (memory : (a : ℕ) → s.memory a ≡ t.memory a) (symbo
   value_same (Leaf (AtSym y)) h = symbols y
   value_same (Read x) h = memory (value s x) ∙ ap (λ a. t.memory a) (value_same x h)
   value_same (Unary o x) h = ap (λ a. un_value o a) (value_same x h)
-  value_same (Binary o x y) h = ap (λ a. bin_value o a (value s y)) (value_same x (same_left (term_reads x) (term_reads y) h)) ∙ ap (λ b. bin_value o (value t x) b) (value_same y (same_right (term_reads x) (term_reads y) h))
+  value_same (Binary o x y) h =
+      ap (λ a. bin_value o a (value s y)) (value_same x (same_left (term_reads x) (term_reads y) h))
+      ∙ ap (λ b. bin_value o (value t x) b) (value_same y (same_right (term_reads x) (term_reads y) h))
 
   -- the transfers behind the first
   rest_same : (m : PlainMove) (ms : PlainInstr) → SameWhere (reads (m ∷ ms)) → SameWhere (reads ms)
@@ -191,34 +215,48 @@ module _ (s t : State) (memory : (a : ℕ) → s.memory a ≡ t.memory a) (symbo
   first_same m ms h = same_left (move_reads m) (reads ms) h
 
   -- a place is set alike, or is as it was
-  place_same : (p : Place) (ms : PlainInstr) → SameWhere (reads ms) → (right_at code_leaves p ms ≡ None → s.place p ≡ t.place p) → new_word s (right_at code_leaves p ms) (s.place p) ≡ new_word t (right_at code_leaves p ms) (t.place p)
+  place_same : (p : Place) (ms : PlainInstr) → SameWhere (reads ms)
+      → (right_at code_leaves p ms ≡ None → s.place p ≡ t.place p)
+      → new_word s (right_at code_leaves p ms) (s.place p) ≡ new_word t (right_at code_leaves p ms) (t.place p)
   place_same p [] h k = k refl
   place_same p (SetTo r x ∷ ms) h k = go (same_register p (InReg r)) k (place_same p ms (rest_same (SetTo r x) ms h))
     where
       go : (b : Bool) → ((if b then Some x else right_at code_leaves p ms) ≡ None → s.place p ≡ t.place p)
-          → ((right_at code_leaves p ms ≡ None → s.place p ≡ t.place p) → new_word s (right_at code_leaves p ms) (s.place p) ≡ new_word t (right_at code_leaves p ms) (t.place p))
-          → new_word s (if b then Some x else right_at code_leaves p ms) (s.place p) ≡ new_word t (if b then Some x else right_at code_leaves p ms) (t.place p)
+          → ((right_at code_leaves p ms ≡ None → s.place p ≡ t.place p)
+          → new_word s (right_at code_leaves p ms) (s.place p)
+          ≡ new_word t (right_at code_leaves p ms) (t.place p))
+          → new_word s (if b then Some x else right_at code_leaves p ms) (s.place p)
+          ≡ new_word t (if b then Some x else right_at code_leaves p ms) (t.place p)
       go true k ih = value_same x (first_same (SetTo r x) ms h)
       go false k ih = ih k
   place_same p (CcTo x y ∷ ms) h k = place_same p ms (rest_same (CcTo x y) ms h) k
   place_same p (StoreTo x y ∷ ms) h k = place_same p ms (rest_same (StoreTo x y) ms h) k
   place_same p (Ends e ∷ ms) h k = place_same p ms (rest_same (Ends e) ms h) k
 
-  memory_same : (ms : PlainInstr) → SameWhere (reads ms) → (a : ℕ) → new_memory s (store_of ms) a ≡ new_memory t (store_of ms) a
+  memory_same : (ms : PlainInstr) → SameWhere (reads ms) → (a : ℕ)
+      → new_memory s (store_of ms) a ≡ new_memory t (store_of ms) a
   memory_same [] h a = memory a
   memory_same (SetTo r x ∷ ms) h a = memory_same ms (rest_same (SetTo r x) ms h) a
   memory_same (CcTo x y ∷ ms) h a = memory_same ms (rest_same (CcTo x y) ms h) a
   memory_same (StoreTo x y ∷ ms) h a =
       let f = first_same (StoreTo x y) ms h in
-      rw (value_same x (same_left (term_reads x) (term_reads y) f), value_same y (same_right (term_reads x) (term_reads y) f), memory a) refl
+      rw (
+        value_same x (same_left (term_reads x) (term_reads y) f),
+        value_same y (same_right (term_reads x) (term_reads y) f),
+        memory a,
+      ) refl
   memory_same (Ends e ∷ ms) h a = memory_same ms (rest_same (Ends e) ms h) a
 
-  cc_same : (ms : PlainInstr) → SameWhere (reads ms) → (cc_of ms ≡ None → s.cc ≡ t.cc) → new_cc s (cc_of ms) ≡ new_cc t (cc_of ms)
+  cc_same : (ms : PlainInstr) → SameWhere (reads ms) → (cc_of ms ≡ None → s.cc ≡ t.cc)
+      → new_cc s (cc_of ms) ≡ new_cc t (cc_of ms)
   cc_same [] h k = k refl
   cc_same (SetTo r x ∷ ms) h k = cc_same ms (rest_same (SetTo r x) ms h) k
   cc_same (CcTo x y ∷ ms) h k =
       let f = first_same (CcTo x y) ms h in
-      rw (value_same x (same_left (term_reads x) (term_reads y) f), value_same y (same_right (term_reads x) (term_reads y) f)) refl
+      rw (
+        value_same x (same_left (term_reads x) (term_reads y) f),
+        value_same y (same_right (term_reads x) (term_reads y) f),
+      ) refl
   cc_same (StoreTo x y ∷ ms) h k = cc_same ms (rest_same (StoreTo x y) ms h) k
   cc_same (Ends e ∷ ms) h k = cc_same ms (rest_same (Ends e) ms h) k
 
@@ -232,8 +270,13 @@ module _ (s t : State) (memory : (a : ℕ) → s.memory a ≡ t.memory a) (symbo
   ending_same : (e : Ending ℕ Place Sym) → SameWhere (move_reads (Ends e)) → goes s (Some e) ≡ goes t (Some e)
   ending_same (GoTo l) h = refl
   ending_same (IfCc r l) h = ap (λ c. by_cc c r l) (h Cc refl)
-  ending_same (IfTwo x y r l) h = rw (value_same x (same_left (term_reads x) (term_reads y) h), value_same y (same_right (term_reads x) (term_reads y) h)) refl
-  ending_same (CallOf f n) h = ap (λ ws. Some (Called f ws)) (arguments_same n n 0 (omega arith) (same_left (is_arg_of n) (is_reg Fp) h))
+  ending_same (IfTwo x y r l) h =
+      rw (
+        value_same x (same_left (term_reads x) (term_reads y) h),
+        value_same y (same_right (term_reads x) (term_reads y) h),
+      ) refl
+  ending_same (CallOf f n) h =
+      ap (λ ws. Some (Called f ws)) (arguments_same n n 0 (omega arith) (same_left (is_arg_of n) (is_reg Fp) h))
   ending_same Return h = ap (λ a. Some (Returned a)) (h (Reg Rv) refl)
 
   pub goes_same : (ms : PlainInstr) → SameWhere (reads ms) → goes s (ending_of ms) ≡ goes t (ending_of ms)
@@ -254,7 +297,8 @@ branch_passes : (b : Bool) (l : Label) (L : Variables) (v : Var) → Passing (br
 branch_passes true l L v p = p
 branch_passes false l L v p = p
 
-end_passes : (s : State) (e : Option (Ending ℕ Place Sym)) (c : Control) (L : Variables) (v : Var) → goes s e ≡ Some c → Passing c L v → ending_sets e v ≡ false
+end_passes : (s : State) (e : Option (Ending ℕ Place Sym)) (c : Control) (L : Variables) (v : Var) → goes s e ≡ Some c
+    → Passing c L v → ending_sets e v ≡ false
 end_passes s None c L v g p = refl
 end_passes s (Some (GoTo l)) c L v g p = refl
 end_passes s (Some (IfCc r l)) c L v g p = refl
@@ -274,18 +318,23 @@ reg_swap Rv Rv = refl
 reg_swap (Arg m) (Arg n) = grind arith
 reg_swap q r = refl
 
-register_unset : (r : Register) (ms : PlainInstr) → IsSingle ms → right_at code_leaves (InReg r) ms ≡ None → ending_sets (ending_of ms) (Reg r) ≡ false → sets ms (Reg r) ≡ false
+register_unset : (r : Register) (ms : PlainInstr) → IsSingle ms → right_at code_leaves (InReg r) ms ≡ None
+    → ending_sets (ending_of ms) (Reg r) ≡ false → sets ms (Reg r) ≡ false
 register_unset r [] h n e = refl
 register_unset r (SetTo q t ∷ ms) h n e = go (reg_eq r q) (reg_swap q r) n (register_unset r ms h.1)
   where
-    go : (b : Bool) → reg_eq q r ≡ b → (if b then Some t else right_at code_leaves (InReg r) ms) ≡ None → (right_at code_leaves (InReg r) ms ≡ None → ending_sets (ending_of ms) (Reg r) ≡ false → sets ms (Reg r) ≡ false) → (reg_eq q r || sets ms (Reg r)) ≡ false
+    go : (b : Bool) → reg_eq q r ≡ b → (if b then Some t else right_at code_leaves (InReg r) ms) ≡ None
+        → (right_at code_leaves (InReg r) ms ≡ None → ending_sets (ending_of ms) (Reg r) ≡ false
+        → sets ms (Reg r) ≡ false) → (reg_eq q r || sets ms (Reg r)) ≡ false
     go true i k ih = absurd (cc)
     go false i k ih = neither (reg_eq q r) (sets ms (Reg r)) i (ih k e)
 register_unset r (CcTo t u ∷ ms) h n e = register_unset r ms h.1 n e
 register_unset r (StoreTo t u ∷ ms) h n e = register_unset r ms h.1 n e
-register_unset r (Ends x ∷ ms) h n e = neither (move_sets (Ends x) (Reg r)) (sets ms (Reg r)) e (register_unset r ms h.1 n (rw h.0 refl))
+register_unset r (Ends x ∷ ms) h n e =
+    neither (move_sets (Ends x) (Reg r)) (sets ms (Reg r)) e (register_unset r ms h.1 n (rw h.0 refl))
 
-cc_unset : (ms : PlainInstr) → IsSingle ms → cc_of ms ≡ None → ending_sets (ending_of ms) Cc ≡ false → sets ms Cc ≡ false
+cc_unset : (ms : PlainInstr) → IsSingle ms → cc_of ms ≡ None → ending_sets (ending_of ms) Cc ≡ false
+    → sets ms Cc ≡ false
 cc_unset [] h n e = refl
 cc_unset (SetTo q t ∷ ms) h n e = cc_unset ms h.1 n e
 cc_unset (CcTo t u ∷ ms) h n e = absurd (cc)
@@ -308,14 +357,21 @@ module _ (x : PlainInstr) (h : IsInstr x) (L : Variables) (s t : State) (a : Agr
     second = after_fits t a.second x h.0;
     memory = memory_same s t a.memory a.symbols x read;
     symbols = λ y. place_same s t a.memory a.symbols (AtSym y) x read (λ n. a.symbols y);
-    registers = λ r p. place_same s t a.memory a.symbols (InReg r) x read (λ n. a.registers r (inr (register_unset r x h.1 n (end_passes s (ending_of x) c L (Reg r) g p), passing_in c L (Reg r) p)));
-    compared = λ p. cc_same s t a.memory a.symbols x read (λ n. a.compared (inr (cc_unset x h.1 n (end_passes s (ending_of x) c L Cc g p), passing_in c L Cc p)));
+    registers =
+        λ r p. place_same s t a.memory a.symbols (InReg r) x read
+        (λ n. a.registers r
+        (inr (register_unset r x h.1 n (end_passes s (ending_of x) c L (Reg r) g p), passing_in c L (Reg r) p)));
+    compared =
+        λ p. cc_same s t a.memory a.symbols x read
+        (λ n. a.compared (inr (cc_unset x h.1 n (end_passes s (ending_of x) c L Cc g p), passing_in c L Cc p)));
   }
 
   pub effect_agree : Alike L (effect x s) (effect x t)
   effect_agree = go (goes s (ending_of x)) refl (goes t (ending_of x)) (goes_same s t a.memory a.symbols x read)
     where
-      go : (o : Option Control) → goes s (ending_of x) ≡ o → (p : Option Control) → goes s (ending_of x) ≡ p → Alike L (option_map (λ c. record { state = after s x; to = c }) o) (option_map (λ c. record { state = after t x; to = c }) p)
+      go : (o : Option Control) → goes s (ending_of x) ≡ o → (p : Option Control) → goes s (ending_of x) ≡ p
+          → Alike L (option_map (λ c. record { state = after s x; to = c }) o)
+          (option_map (λ c. record { state = after t x; to = c }) p)
       go None g None e = tt
       go (Some c) g (Some d) e = ((cc), after_agree c g)
       go None g (Some d) e = absurd (cc)

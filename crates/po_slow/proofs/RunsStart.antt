@@ -35,7 +35,8 @@ written_sets : (ms : PlainInstr) (k : ℕ) → Contains (written ms) k → sets 
 written_sets [] k c = absurd (contains_none k c)
 written_sets (SetTo (Virt v) t ∷ ms) k c = go (contains_split v (written ms) k c) (written_sets ms k)
   where
-    go : (v ≡ k) ⊎ Contains (written ms) k → (Contains (written ms) k → sets ms (Reg (Virt k)) ≡ true) → (reg_eq (Virt v) (Virt k) || sets ms (Reg (Virt k))) ≡ true
+    go : (v ≡ k) ⊎ Contains (written ms) k → (Contains (written ms) k → sets ms (Reg (Virt k)) ≡ true)
+        → (reg_eq (Virt v) (Virt k) || sets ms (Reg (Virt k))) ≡ true
     go (inl e) ih = left_true (reg_eq (Virt v) (Virt k)) (sets ms (Reg (Virt k))) (rw e (reg_self (Virt k)))
     go (inr d) ih = right_true (reg_eq (Virt v) (Virt k)) (sets ms (Reg (Virt k))) (ih d)
 written_sets (SetTo Fp t ∷ ms) k c = written_sets ms k c
@@ -43,19 +44,25 @@ written_sets (SetTo Rv t ∷ ms) k c = written_sets ms k c
 written_sets (SetTo (Arg n) t ∷ ms) k c = written_sets ms k c
 written_sets (CcTo t u ∷ ms) k c = written_sets ms k c
 written_sets (StoreTo t u ∷ ms) k c = written_sets ms k c
-written_sets (Ends e ∷ ms) k c = right_true (move_sets (Ends e) (Reg (Virt k))) (sets ms (Reg (Virt k))) (written_sets ms k c)
+written_sets (Ends e ∷ ms) k c =
+    right_true (move_sets (Ends e) (Reg (Virt k))) (sets ms (Reg (Virt k))) (written_sets ms k c)
 
 module _ (code : List PlainBlock) (straight : IsStraight code) (k : ℕ) where
   behind_at : (b : ℕ) → ReadsBehind [] (instrs_at code b)
   behind_at b = each_block (ReadsBehind []) tt code b straight.behind
 
   -- on a path from a place where k isn't set yet, a setter of k stands before each reader
-  never_read : (path : List Point) (b : ℕ) (xs : List PlainInstr) (set : List ℕ) → ReadsBehind set xs → (Contains set k → ⊥) → ReadOn code (Reg (Virt k)) (record { block = b; rest = xs }) path → ⊥
+  never_read : (path : List Point) (b : ℕ) (xs : List PlainInstr) (set : List ℕ) → ReadsBehind set xs
+      → (Contains set k → ⊥) → ReadOn code (Reg (Virt k)) (record { block = b; rest = xs }) path → ⊥
   never_read [] b [] set r n h = false≢true h
   never_read [] b (x ∷ xs) set r n h = n (r.0 k h)
   never_read (q ∷ qs) b [] set r n h =
-      never_read qs q.block q.rest [] (subst (λ (ys : List PlainInstr). ReadsBehind [] ys) (sym h.1.1) (behind_at q.block)) (contains_none k) h.2
-  never_read (q ∷ qs) b (x ∷ xs) set r n h = never_read qs q.block q.rest (set ++ written x) (subst (λ (ys : List PlainInstr). ReadsBehind (set ++ written x) ys) (sym h.1.1) r.1) (λ c. go (Contains-append_cases set (written x) k c)) h.2
+      never_read qs q.block q.rest []
+      (subst (λ (ys : List PlainInstr). ReadsBehind [] ys) (sym h.1.1) (behind_at q.block)) (contains_none k) h.2
+  never_read (q ∷ qs) b (x ∷ xs) set r n h =
+      never_read qs q.block q.rest (set ++ written x)
+      (subst (λ (ys : List PlainInstr). ReadsBehind (set ++ written x) ys) (sym h.1.1) r.1)
+      (λ c. go (Contains-append_cases set (written x) k c)) h.2
     where
       go : Contains set k ⊎ Contains (written x) k → ⊥
       go (inl c) = n c
@@ -75,11 +82,14 @@ module _ (k : ℕ) where
   term_arg (Read t) h e = term_arg t h e
   term_arg (Unary o t) h e = term_arg t h e
   term_arg (Binary o t u) h e =
-      by_either (term_reads t (Reg (Arg k))) (term_reads u (Reg (Arg k))) e (λ i. term_arg t h.0 i) (λ i. term_arg u h.1 i)
+      by_either (term_reads t (Reg (Arg k))) (term_reads u (Reg (Arg k))) e (λ i. term_arg t h.0 i)
+      (λ i. term_arg u h.1 i)
 
-  two_arg : (t u : Tree ℕ Place) → WellFormedTerm t → WellFormedTerm u → (term_reads t (Reg (Arg k)) || term_reads u (Reg (Arg k))) ≡ true → k ≤ 3
+  two_arg : (t u : Tree ℕ Place) → WellFormedTerm t → WellFormedTerm u
+      → (term_reads t (Reg (Arg k)) || term_reads u (Reg (Arg k))) ≡ true → k ≤ 3
   two_arg t u h i e =
-      by_either (term_reads t (Reg (Arg k))) (term_reads u (Reg (Arg k))) e (λ j. term_arg t h.places j) (λ j. term_arg u i.places j)
+      by_either (term_reads t (Reg (Arg k))) (term_reads u (Reg (Arg k))) e (λ j. term_arg t h.places j)
+      (λ j. term_arg u i.places j)
 
   below_four : (n : ℕ) → n ≤ 4 → nat_lt k n ≡ true → k ≤ 3
   below_four n h e = let l = ltb-true k n e in omega arith
@@ -110,16 +120,19 @@ module _ (k : ℕ) where
     read_arg [] b [] f h = absurd (false≢true h)
     read_arg [] b (x ∷ xs) f h = instr_arg x (All-head WellFormed x xs f).each h
     read_arg (q ∷ qs) b [] f h =
-        read_arg qs q.block q.rest (subst (λ (ys : List PlainInstr). All WellFormed ys) (sym h.1.1) (formed_at q.block)) h.2
+        read_arg qs q.block q.rest
+        (subst (λ (ys : List PlainInstr). All WellFormed ys) (sym h.1.1) (formed_at q.block)) h.2
     read_arg (q ∷ qs) b (x ∷ xs) f h =
-        read_arg qs q.block q.rest (subst (λ (ys : List PlainInstr). All WellFormed ys) (sym h.1.1) (All-tail WellFormed x xs f)) h.2
+        read_arg qs q.block q.rest
+        (subst (λ (ys : List PlainInstr). All WellFormed ys) (sym h.1.1) (All-tail WellFormed x xs f)) h.2
 
     live_arg : (b : ℕ) → LiveWhere code (Before b) (Reg (Arg k)) → k ≤ 3
     live_arg b (inl e) = absurd (cc)
     live_arg b (inr r) = read_arg r.0 b (instrs_at code b) (formed_at b) r.1
 
 -- at the start of a block of a straight code only fixed registers are live
-pub live_fixed : (code : List PlainBlock) → IsStraight code → IsFormedCode code → (b : ℕ) (r : Register) → LiveWhere code (Before b) (Reg r) → IsFixed r
+pub live_fixed : (code : List PlainBlock) → IsStraight code → IsFormedCode code → (b : ℕ) (r : Register)
+    → LiveWhere code (Before b) (Reg r) → IsFixed r
 live_fixed code straight formed b (Virt k) l = virtual_dead code straight k b l
 live_fixed code straight formed b Fp l = tt
 live_fixed code straight formed b Rv l = tt
@@ -139,7 +152,8 @@ start_together code s replies fits h = record {
 }
 
 -- from two that agree on what is live at the start of the code
-pub starts_together : (code : List PlainBlock) (s t : State) (replies : List Reply) → AlikeAtStart code (λ r. r) s t → All IsReply replies
+pub starts_together : (code : List PlainBlock) (s t : State) (replies : List Reply) → AlikeAtStart code (λ r. r) s t
+    → All IsReply replies
     → Together code (starts s replies) (starts t replies)
 starts_together code s t replies a h = record {
   stop = refl;

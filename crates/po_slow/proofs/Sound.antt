@@ -1,5 +1,6 @@
 -- A combination keeps the effect: what holds of the joint list, and what recognition adds to it.
-use Rattle.std.proofs.Common.{◌≡◌, ℕ, zero, suc, Bool, true, false, List, [], ◌∷◌, ◌++◌, get_or, Option, Some, None, refl, sym, ap, ◌∙◌, subst, arith}
+use Rattle.std.proofs.Common.{◌≡◌, ℕ, zero, suc, Bool, true, false, List, [], ◌∷◌, ◌++◌, get_or, Option, Some, None}
+use Rattle.std.proofs.Common.{refl, sym, ap, ◌∙◌, subst, arith}
 use Rattle.std.specs.Prelude.{All, Contains, IsTrue, IsSome, is_some, not, ◌||◌, ◌&&◌}
 use Rattle.std.specs.List.{list_any}
 use Rattle.std.proofs.lemmas.Bool.{false≢true, true≢false}
@@ -26,7 +27,8 @@ use Rattle.po_model.specs.Pairs.{PlainPair, is_live_after, is_set_in, WellFormed
 use Rattle.po_model.specs.Combined.{if_fit, recognised, combination, Answer}
 use Rattle.po_recog.specs.Limits.{IsSmall, HasSmallTerms, IsWithinLimits}
 use Rattle.po_recog.proofs.Limits.{within_limits}
-use Rattle.po_subst.specs.KeepsEffect.{OfList, lives, live_before, TermInRange, MoveInRange, HasForm, labels_in, syms_in}
+use Rattle.po_subst.specs.KeepsEffect.{OfList, lives, live_before, TermInRange, MoveInRange, HasForm, labels_in}
+use Rattle.po_subst.specs.KeepsEffect.{syms_in}
 use Rattle.po_subst.proofs.Agreeing.{one_register}
 use Rattle.po_subst.proofs.Alike.{or_false}
 use Rattle.po_subst.proofs.Joint.{joined_where}
@@ -39,7 +41,8 @@ abbrev Joining : Type 0
 Joining = Joint ℕ Place Register Sym
 
 -- what holds of the joint list holds of it where it is recognised
-pub in_place : (m : Machine) (cc_live : Bool) (Q : PlainInstr → Type 0) (x : Joining) → OfList x Q → InPlace (recognised words code_leaves m cc_live x).got Q
+pub in_place : (m : Machine) (cc_live : Bool) (Q : PlainInstr → Type 0) (x : Joining) → OfList x Q
+    → InPlace (recognised words code_leaves m cc_live x).got Q
 in_place m cc_live Q NotJoined h = tt
 in_place m cc_live Q NothingLeft h = h
 in_place m cc_live Q (joint.AsOne j) h = go (fit m cc_live j)
@@ -49,7 +52,8 @@ in_place m cc_live Q (joint.AsOne j) h = go (fit m cc_live j)
     go (Some found) = h
 
 -- two facts of the joint list, and what follows from them
-from_both : (P Q R : PlainInstr → Type 0) (x : Joining) → ((j : PlainInstr) → P j → Q j → R j) → OfList x P → OfList x Q → OfList x R
+from_both : (P Q R : PlainInstr → Type 0) (x : Joining) → ((j : PlainInstr) → P j → Q j → R j) → OfList x P
+    → OfList x Q → OfList x R
 from_both P Q R NotJoined f h i = tt
 from_both P Q R NothingLeft f h i = f [] h i
 from_both P Q R (joint.AsOne j) f h i = f j h i
@@ -77,10 +81,12 @@ formed_list a b j h w = record {
   each = λ k d l. formed_move (get_or j k d) (h.each k d l) (w.terms k d l);
 }
 
-formed_answer : (m : Machine) (cc_live : Bool) (a b : PlainInstr) → IsMachine m → (x : Joining) → OfList x (λ j. HasForm a b j) → IsFormed (recognised words code_leaves m cc_live x).got
+formed_answer : (m : Machine) (cc_live : Bool) (a b : PlainInstr) → IsMachine m → (x : Joining)
+    → OfList x (λ j. HasForm a b j) → IsFormed (recognised words code_leaves m cc_live x).got
 formed_answer m cc_live a b allowed NotJoined h = tt
 formed_answer m cc_live a b allowed NothingLeft h = tt
-formed_answer m cc_live a b allowed (joint.AsOne j) h = go (fit m cc_live j) (λ there. formed_list a b j h (within_limits m cc_live j allowed there))
+formed_answer m cc_live a b allowed (joint.AsOne j) h =
+    go (fit m cc_live j) (λ there. formed_list a b j h (within_limits m cc_live j allowed there))
   where
     go : (o : Option (ℕ × List (Found ℕ Register Sym))) → (IsSome o → WellFormed j) → IsFormed (if_fit j o)
     go None f = tt
@@ -89,25 +95,33 @@ formed_answer m cc_live a b allowed (joint.AsOne j) h = go (fit m cc_live j) (λ
 -- What is live
 
 -- a variable of which both sets say the same
-same_here : (a b j : PlainInstr) (own live : Var → Bool) (v : Var) → live v ≡ own v → (live_before j own v ≡ true → live_before a (live_before b own) v ≡ true) → live_before j live v ≡ true → live_before a (live_before b live) v ≡ true
+same_here : (a b j : PlainInstr) (own live : Var → Bool) (v : Var) → live v ≡ own v
+    → (live_before j own v ≡ true → live_before a (live_before b own) v ≡ true) → live_before j live v ≡ true
+    → live_before a (live_before b live) v ≡ true
 same_here a b j own live v e h = rw e h
 
 -- one that neither instruction sets, and that the pair doesn't name as live
-passes_by : (ra rb rj sj l : Bool) → ((rj || (not sj && false)) ≡ true → (ra || (true && (rb || (true && false)))) ≡ true) → (rj || (not sj && l)) ≡ true → (ra || (true && (rb || (true && l)))) ≡ true
+passes_by : (ra rb rj sj l : Bool)
+    → ((rj || (not sj && false)) ≡ true → (ra || (true && (rb || (true && false)))) ≡ true)
+    → (rj || (not sj && l)) ≡ true → (ra || (true && (rb || (true && l)))) ≡ true
 passes_by true rb rj sj l h i = refl
 passes_by false true rj sj l h i = refl
 passes_by false false rj sj true h i = refl
 passes_by false false rj sj false h i = h i
 
-unset_here : (a b j : PlainInstr) (own live : Var → Bool) (v : Var) → sets a v ≡ false → sets b v ≡ false → own v ≡ false → (live_before j own v ≡ true → live_before a (live_before b own) v ≡ true) → live_before j live v ≡ true → live_before a (live_before b live) v ≡ true
-unset_here a b j own live v x y z h = rw (x, y) (passes_by (reads a v) (reads b v) (reads j v) (sets j v) (live v) (rw (x, y, z) at h))
+unset_here : (a b j : PlainInstr) (own live : Var → Bool) (v : Var) → sets a v ≡ false → sets b v ≡ false
+    → own v ≡ false → (live_before j own v ≡ true → live_before a (live_before b own) v ≡ true)
+    → live_before j live v ≡ true → live_before a (live_before b live) v ≡ true
+unset_here a b j own live v x y z h =
+    rw (x, y) (passes_by (reads a v) (reads b v) (reads j v) (sets j v) (live v) (rw (x, y, z) at h))
 
 not_there : (o : Option (Tree ℕ Place)) → is_some o ≡ false → o ≡ None
 not_there None h = refl
 not_there (Some t) h = absurd (true≢false h)
 
 -- what the pair names as live, one of the two sets
-named : (f : Register → Bool) (qs : List Register) → All (λ q. IsTrue (f q)) qs → (r : Register) → f r ≡ false → list_any (reg_eq r) qs ≡ false
+named : (f : Register → Bool) (qs : List Register) → All (λ q. IsTrue (f q)) qs → (r : Register) → f r ≡ false
+    → list_any (reg_eq r) qs ≡ false
 named f [] h r e = refl
 named f (q ∷ qs) h r e = go (reg_eq r q) refl (named f qs (λ k d l. h (suc k) d (omega (arith, l))) r e)
   where
@@ -124,7 +138,9 @@ module _ (m : Machine) (p : PlainPair) (h : WellFormedPair p) where
 
   -- the facts of the joint list
   stays : OfList come_to (λ j. (list_any is_control p.a ≡ false) × (list_any is_away p.b ≡ false))
-  stays = joined_where (is_live_after p) p.cc p.a p.b (λ j. (list_any is_control p.a ≡ false) × (list_any is_away p.b ≡ false)) (λ f j. (j.no_control, j.no_away))
+  stays =
+      joined_where (is_live_after p) p.cc p.a p.b
+      (λ j. (list_any is_control p.a ≡ false) × (list_any is_away p.b ≡ false)) (λ f j. (j.no_control, j.no_away))
 
   abbrev SameSeen : State → PlainInstr → Type 0
   SameSeen s j = SameEffect (is_live_after p) p.cc p.a p.b (effect_of_both p.a p.b s) (effect j s)
@@ -137,14 +153,19 @@ module _ (m : Machine) (p : PlainPair) (h : WellFormedPair p) where
 
   -- one of them, of the answer
   of_form : (Q : PlainInstr → Type 0) → ((j : PlainInstr) → HasForm p.a p.b j → Q j) → InPlace (combination m p) Q
-  of_form Q f = in_place m p.cc Q come_to (from_both (λ j. HasForm p.a p.b j) (λ j. HasForm p.a p.b j) Q come_to (λ j x y. f j x) form form)
+  of_form Q f =
+      in_place m p.cc Q come_to
+      (from_both (λ j. HasForm p.a p.b j) (λ j. HasForm p.a p.b j) Q come_to (λ j x y. f j x) form form)
 
-  live_here : (live : Var → Bool) → IsLiveAfter p live → (v : Var) → (j : PlainInstr) → (list_any is_control p.a ≡ false) × (list_any is_away p.b ≡ false)
-      → (live_before j own v ≡ true → live_before p.a (live_before p.b own) v ≡ true) → live_before j live v ≡ true → live_before p.a (live_before p.b live) v ≡ true
+  live_here : (live : Var → Bool) → IsLiveAfter p live → (v : Var) → (j : PlainInstr)
+      → (list_any is_control p.a ≡ false) × (list_any is_away p.b ≡ false)
+      → (live_before j own v ≡ true → live_before p.a (live_before p.b own) v ≡ true) → live_before j live v ≡ true
+      → live_before p.a (live_before p.b live) v ≡ true
   live_here live l Cc j n law = same_here p.a p.b j own live Cc l.cc law
   live_here live l (Reg r) j n law = go (is_set_in p.a r || is_set_in p.b r) refl
     where
-      go : (c : Bool) → (is_set_in p.a r || is_set_in p.b r) ≡ c → live_before j live (Reg r) ≡ true → live_before p.a (live_before p.b live) (Reg r) ≡ true
+      go : (c : Bool) → (is_set_in p.a r || is_set_in p.b r) ≡ c → live_before j live (Reg r) ≡ true
+          → live_before p.a (live_before p.b live) (Reg r) ≡ true
       go true e = same_here p.a p.b j own live (Reg r) (l.regs r e) law
       go false e =
           let two = or_false (is_set_in p.a r) (is_set_in p.b r) e in
@@ -161,12 +182,17 @@ module _ (m : Machine) (p : PlainPair) (h : WellFormedPair p) where
     symbols = of_form (λ j. All (Contains (syms_in p.a ++ syms_in p.b)) (syms_in j)) (λ j f. f.symbols);
     control = of_form (λ j. is_some (ending_of p.b) ≡ false → is_some (ending_of j) ≡ false) (λ j f. f.control);
     targets = of_form (λ j. (v : Var) → sets j v ≡ true → (sets p.a v || sets p.b v) ≡ true) (λ j f. f.targets);
-    nothing_live = λ live l v. in_place m p.cc (λ j. live_before j live v ≡ true → live_before p.a (live_before p.b live) v ≡ true) come_to
-        (from_both (λ j. (list_any is_control p.a ≡ false) × (list_any is_away p.b ≡ false)) (λ j. live_before j own v ≡ true → live_before p.a (live_before p.b own) v ≡ true)
+    nothing_live =
+        λ live l v. in_place m p.cc
         (λ j. live_before j live v ≡ true → live_before p.a (live_before p.b live) v ≡ true) come_to
-        (λ j n law. live_here live l v j n law) stays (joined_makes_nothing (is_live_after p) p.cc p.a p.b h.first h.second v));
+        (from_both (λ j. (list_any is_control p.a ≡ false) × (list_any is_away p.b ≡ false))
+        (λ j. live_before j own v ≡ true → live_before p.a (live_before p.b own) v ≡ true)
+        (λ j. live_before j live v ≡ true → live_before p.a (live_before p.b live) v ≡ true) come_to
+        (λ j n law. live_here live l v j n law) stays
+        (joined_makes_nothing (is_live_after p) p.cc p.a p.b h.first h.second v));
   }
 
 -- the same of an answer that is the combination
-pub answer_keeps : (m : Machine) (p : PlainPair) (answer : Answer) → answer ≡ combination m p → WellFormedPair p → KeepsEffect m p answer
+pub answer_keeps : (m : Machine) (p : PlainPair) (answer : Answer) → answer ≡ combination m p → WellFormedPair p
+    → KeepsEffect m p answer
 answer_keeps m p answer e h = subst (λ (x : Answer). KeepsEffect m p x) (sym e) (keeps_effect m p h)

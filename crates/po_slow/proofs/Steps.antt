@@ -1,10 +1,12 @@
 -- The steps that the scan of a code has made, one after the other.
-use Rattle.std.proofs.Common.{◌≡◌, ℕ, ◌+◌, Bool, true, List, [], ◌∷◌, ◌++◌, length, Option, Some, None, refl, ◌∙◌, ap, subst, arith}
+use Rattle.std.proofs.Common.{◌≡◌, ℕ, ◌+◌, Bool, true, List, [], ◌∷◌, ◌++◌, length, Option, Some, None, refl, ◌∙◌, ap}
+use Rattle.std.proofs.Common.{subst, arith}
 use Rattle.po_model.specs.declared.machine.Machine.{Machine}
 use Rattle.po_model.specs.Blocks.{PlainBlock}
 use Rattle.po_model.specs.Pairs.{PlainPair}
 use Rattle.po_model.specs.Combined.{combination}
-use Rattle.po_model.specs.Scanned.{Scan, ScanStep, Tried, Ended, pair_ready, after_try, Answers, Goes, StandsAfter, tried, ends}
+use Rattle.po_model.specs.Scanned.{Scan, ScanStep, Tried, Ended, pair_ready, after_try, Answers, Goes, StandsAfter}
+use Rattle.po_model.specs.Scanned.{tried, ends}
 use Rattle.po_slow.specs.States.{IsAnswer, IsTried}
 use Rattle.po_slow.specs.Steps.{IsOneStep, IsStepOn, HasGone}
 
@@ -17,7 +19,8 @@ one_tried m s t n k h count = go (pair_ready s) refl h.is_answer
     go (Some p) e a = record { step = Tried p; goes = (e, h.goes_on ∙ ap (λ o. after_try o s) a); counted = count }
 
 -- steps and further steps
-pub goes_append : (answer : Answers) (s t u : Scan) (xs ys : List ScanStep) → Goes answer s xs t → Goes answer t ys u → Goes answer s (xs ++ ys) u
+pub goes_append : (answer : Answers) (s t u : Scan) (xs ys : List ScanStep) → Goes answer s xs t → Goes answer t ys u
+    → Goes answer s (xs ++ ys) u
 goes_append answer s t u [] ys g h = subst (λ v. Goes answer v ys u) g h
 goes_append answer s t u (Tried p ∷ xs) ys (e, g) h = (e, goes_append answer (after_try (answer p) s) t u xs ys g h)
 goes_append answer s t u (Ended ∷ xs) ys (v, a, g) h = (v, a, goes_append answer v t u xs ys g h)
@@ -36,11 +39,13 @@ ends_append [] ys = omega arith
 ends_append (Tried p ∷ xs) ys = ends_append xs ys
 ends_append (Ended ∷ xs) ys = omega (arith, ends_append xs ys)
 
-pub one_step : (m : Machine) (s t : Scan) (n k : ℕ) (more : Bool) → IsStepOn m s t n k more → more ≡ true → IsOneStep m s t n k
+pub one_step : (m : Machine) (s t : Scan) (n k : ℕ) (more : Bool) → IsStepOn m s t n k more → more ≡ true
+    → IsOneStep m s t n k
 one_step m s t n k more h e = subst (IsStepOn m s t n k) e h
 
 -- one step more
-pub gone_more : (m : Machine) (code : List PlainBlock) (s t : Scan) (n k l : ℕ) → HasGone m code s n k → IsOneStep m s t k l → HasGone m code t n l
+pub gone_more : (m : Machine) (code : List PlainBlock) (s t : Scan) (n k l : ℕ) → HasGone m code s n k
+    → IsOneStep m s t k l → HasGone m code t n l
 gone_more m code s t n k l g h = record {
   steps = g.steps ++ h.step ∷ [];
   stands = stands_append (combination m) code s t g.steps (h.step ∷ []) g.stands h.goes;

@@ -48,8 +48,8 @@ PassesKeepFit = AfterPasses (λ m code scanned. IsRecognised code m → IsRecogn
 abbrev pub PassesMakeNothingLive : Type 0
 PassesMakeNothingLive = AfterPasses (λ m code scanned. (b : ℕ) (v : Var) → IsLiveAt scanned b v → IsLiveAt code b v)
 
--- from starts that agree on what is live in the code after the passes, n blocks of the code before them and n blocks of
--- that code can't be told apart, whatever the calls reply
+-- from starts that agree on what is live in the code after the passes, n blocks of the code before them and n blocks
+-- of that code can't be told apart, whatever the calls reply
 abbrev pub PassesKeepRuns : Type 0
 PassesKeepRuns = AfterPasses (λ m code scanned. (n : ℕ) (s t : State) (replies : List Reply)
     → AlikeAtStart scanned (λ r. r) s t → All IsReply replies

@@ -2,7 +2,8 @@
 --
 -- A block is scanned in place: its first instructions are those that are done, its last ones those that are to come,
 -- and what lies between them is left over.
-use Rattle.std.specs.Prelude.{ℕ, zero, suc, ◌≡◌, ◌≤◌, ◌<◌, Bool, List, [], ◌∷◌, ◌++◌, map, reverse, take, drop, length, All, Option, Some, None, ⊤}
+use Rattle.std.specs.Prelude.{ℕ, zero, suc, ◌≡◌, ◌≤◌, ◌<◌, Bool, List, [], ◌∷◌, ◌++◌, map, reverse, take, drop, length}
+use Rattle.std.specs.Prelude.{All, Option, Some, None, ⊤}
 use Rattle.po_term.specs.Form.{WellFormed}
 use Rattle.po_model.specs.declared.machine.Machine.{Machine}
 use Rattle.po_model.specs.declared.var.Var.{Var}
@@ -11,7 +12,8 @@ use Rattle.po_live.specs.declared.parts.LiveList.{LiveList}
 use Rattle.po_live.specs.Parts.{tells, blocks_in, parts_in, IsLiveList}
 use Rattle.po_model.specs.Pairs.{PlainPair, pair_of, WellFormedPair}
 use Rattle.po_model.specs.Combined.{Kept, Gone, AsOne, combination, Answer}
-use Rattle.po_model.specs.Scanned.{Ahead, Stand, InBlock, Scan, Within, Finished, enter, instrs_ahead, blocks_ahead, ready, settled, pair_ready, after_try, IsAtEnd}
+use Rattle.po_model.specs.Scanned.{Ahead, Stand, InBlock, Scan, Within, Finished, enter, instrs_ahead, blocks_ahead}
+use Rattle.po_model.specs.Scanned.{ready, settled, pair_ready, after_try, IsAtEnd}
 use Rattle.po_slow.specs.declared.block.Standing.{Standing}
 use Rattle.po_slow.specs.declared.block.Stage.{Stage}
 use Rattle.po_slow.specs.declared.block.Stage.TheVariants as stage
@@ -41,7 +43,8 @@ abbrev pub take_next : List PlainInstr → List Ahead → Bool → Stand
 take_next done [] changed = record { done = done; rest = []; changed = changed }
 take_next done (x ∷ xs) changed = record { done = x.instr ∷ done; rest = xs; changed = changed }
 
--- where the scan of a code stands in the first of these blocks, the b-th of the code; at the finish where there is none
+-- where the scan of a code stands in the first of these blocks, the b-th of the code; at the finish where there is
+-- none
 abbrev pub place_in : (ℕ → ℕ → Var → Bool) → ℕ → ℕ → ℕ → Bool → List PlainBlock → List PlainBlock → Scan
 place_in live b done next changed passed [] = Finished (reverse passed)
 place_in live b done next changed passed (x ∷ xs) = Within (record {

@@ -1,6 +1,7 @@
 //! Where the scan of a block stands. The block is scanned in place: its first instructions are those that are done,
 //! its last ones those that are to come, and what lies between them is left over.
-ghost use Rattle.std.specs.Prelude.{ℕ, ◌≡◌, ◌<◌, ◌≤◌, ◌+◌, ◌-◌, ◌^◌, Bool, true, false, length, slice_set, slice_index_or};
+ghost use Rattle.std.specs.Prelude.{ℕ, ◌≡◌, ◌<◌, ◌≤◌, ◌+◌, ◌-◌, ◌^◌, Bool, true, false, length, slice_set};
+ghost use Rattle.std.specs.Prelude.{slice_index_or};
 ghost use Rattle.po_term.specs.Moves.{instr_of, instrs_of};
 ghost use Rattle.po_model.specs.declared.var.Var.{Var as Variable};
 ghost use Rattle.po_model.specs.Combined.{combination_of};
@@ -102,7 +103,8 @@ fn advance(alloc: Global, xs: &mut [Instr], lives: &LiveList, b: usize, at: &mut
     }
 }
 
-/// On to the next pair, or to the end of the block: dead instructions are dropped, and one with none before it is done.
+/// On to the next pair, or to the end of the block: dead instructions are dropped, and one with none before it is
+/// done.
 pub fn go_on(alloc: Global, xs: &mut [Instr], lives: &LiveList, b: usize, at: &mut Standing)
     requires order { at.old.done ≤ at.old.next }
     requires inside { at.old.next ≤ length xs.old }

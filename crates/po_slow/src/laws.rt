@@ -1,7 +1,8 @@
 //! What is promised of slow combination and of all passes, as contracts of functions that do nothing.
 ghost use Rattle.po_slow.specs.Laws.{CombinationKeepsEffect};
 ghost use Rattle.po_slow.specs.Dead.{DeadLeavesNoTrace};
-ghost use Rattle.po_slow.specs.Passes.{PassesKeepForm, PassesKeepFit, PassesMakeNothingLive, PassesKeepRuns, PassesMakeOneCode};
+ghost use Rattle.po_slow.specs.Passes.{PassesKeepForm, PassesKeepFit, PassesMakeNothingLive, PassesKeepRuns};
+ghost use Rattle.po_slow.specs.Passes.{PassesMakeOneCode};
 
 /// For every machine and every well-formed pair of instructions, what stands in the place of the pair does in every
 /// state what the two do, as far as it is seen with what is live after them, and it makes nothing live; where it is

@@ -49,8 +49,8 @@ fn outcome(m: &Machine, index: &Index, joined: Joined, cc_live: bool) -> Outcome
 }
 
 /// What becomes of two instructions on a machine, with an index of it, where these registers are live after them, and
-/// `cc` or not (docs/OPTIMISER.md, "Keep, nothing, one"). Neither is copied where that isn't needed, and no list is made
-/// that is longer than each entry. It fails only where memory is refused.
+/// `cc` or not (docs/OPTIMISER.md, "Keep, nothing, one"). Neither is copied where that isn't needed, and no list is
+/// made that is longer than each entry. It fails only where memory is refused.
 pub fn combine_two(
     alloc: Global,
     m: &Machine,

@@ -1,5 +1,6 @@
 //! The pair that is ready within a block: the last instruction that is done, and the next one.
-ghost use Rattle.std.specs.Prelude.{ℕ, ◌≡◌, ◌<◌, ◌≤◌, ◌+◌, ◌-◌, ◌^◌, length, reverse, take, drop, Some, IfOk, OnOk, OnErr, slice_set, slice_index_or};
+ghost use Rattle.std.specs.Prelude.{ℕ, ◌≡◌, ◌<◌, ◌≤◌, ◌+◌, ◌-◌, ◌^◌, length, reverse, take, drop, Some, IfOk, OnOk};
+ghost use Rattle.std.specs.Prelude.{OnErr, slice_set, slice_index_or};
 ghost use Rattle.po_term.specs.Moves.{instrs_of};
 ghost use Rattle.po_live.specs.Parts.{tells, HasParts};
 ghost use Rattle.po_model.specs.Pairs.{pair_of};

@@ -5,7 +5,8 @@ ghost use Rattle.po_model.specs.Combined.{combination_of};
 ghost use Rattle.po_model.specs.Machines.{IsMachine};
 ghost use Rattle.po_model.specs.Scanned.{Finished, IsPassStart, IsAtEnd, AfterEnd, pair_ready, after_try};
 ghost use Rattle.po_recog.specs.Indexes.{IsIndexOf};
-ghost use Rattle.po_slow.specs.States.{scan_of, enter_at, Asks, CanAnswer, StandsAs, HasPair, IsFinished, IsCut, IsPlaced, IsTried, IsFormedState};
+ghost use Rattle.po_slow.specs.States.{scan_of, enter_at, Asks, CanAnswer, StandsAs, HasPair, IsFinished, IsCut};
+ghost use Rattle.po_slow.specs.States.{IsPlaced, IsTried, IsFormedState};
 ghost use Rattle.po_model.specs.UnitCodes.{IsFormedCode};
 
 use crate::block::{Stage, Standing};

@@ -38,7 +38,9 @@ one_un Not Not e = refl
 one_un o p e = cc
 
 bin_at : ℕ → Bin
-bin_at n = if n == 0 then Add else if n == 1 then Sub else if n == 2 then Mul else if n == 3 then And else if n == 4 then Or else if n == 5 then Xor else if n == 6 then Shl else if n == 7 then Sar else Shr
+bin_at n =
+    if n == 0 then Add else if n == 1 then Sub else if n == 2 then Mul else if n == 3 then And else if n == 4 then Or
+    else if n == 5 then Xor else if n == 6 then Shl else if n == 7 then Sar else Shr
 
 bin_at_place : (o : Bin) → bin_at (bin_place o) ≡ o
 unfolding bin_at
@@ -76,15 +78,22 @@ agree_one (Const c) (Const d) e = ap Const (go (c == d) refl e)
 agree_one (Leaf p) (Leaf q) e = ap Leaf (one_leaf p q e)
 agree_one (Read x) (Read y) e = ap Read (agree_one x y e)
 agree_one (Unary o x) (Unary p y) e =
-    let f : (if un_eq o p then (agree words code_leaves x y).got else false) ≡ true = sym (if_got (un_eq o p) (agree words code_leaves x y)) ∙ e in
+    let f : (if un_eq o p then (agree words code_leaves x y).got else false) ≡ true =
+    sym (if_got (un_eq o p) (agree words code_leaves x y)) ∙ e in
     let g = both_passed (un_eq o p) (agree words code_leaves x y).got f in
     ap (λ q. Unary q x) (one_un o p g.0) ∙ ap (λ z. Unary p z) (agree_one x y g.1)
 agree_one (Binary o x y) (Binary p u v) e =
-    let f : (if bin_eq o p then (if_met (agree words code_leaves x u).got (agree words code_leaves y v)).got else false) ≡ true = sym (if_got (bin_eq o p) (and_then (agree words code_leaves x u) (λ yes. if_met yes (agree words code_leaves y v)))) ∙ e in
+    let f :
+    (if bin_eq o p then (if_met (agree words code_leaves x u).got (agree words code_leaves y v)).got else false)
+    ≡ true =
+    sym (if_got (bin_eq o p)
+    (and_then (agree words code_leaves x u) (λ yes. if_met yes (agree words code_leaves y v)))) ∙ e in
     let g = both_passed (bin_eq o p) (if_met (agree words code_leaves x u).got (agree words code_leaves y v)).got f in
-    let h : (if (agree words code_leaves x u).got then (agree words code_leaves y v).got else false) ≡ true = sym (if_got (agree words code_leaves x u).got (agree words code_leaves y v)) ∙ g.1 in
+    let h : (if (agree words code_leaves x u).got then (agree words code_leaves y v).got else false) ≡ true =
+    sym (if_got (agree words code_leaves x u).got (agree words code_leaves y v)) ∙ g.1 in
     let i = both_passed (agree words code_leaves x u).got (agree words code_leaves y v).got h in
-    ap (λ q. Binary q x y) (one_bin o p g.0) ∙ ap (λ z. Binary p z y) (agree_one x u i.0) ∙ ap (λ z. Binary p u z) (agree_one y v i.1)
+    ap (λ q. Binary q x y) (one_bin o p g.0) ∙ ap (λ z. Binary p z y) (agree_one x u i.0)
+    ∙ ap (λ z. Binary p u z) (agree_one y v i.1)
 agree_one a b e = cc
 
 pub reg_self : (r : Register) → reg_eq r r ≡ true

@@ -1,5 +1,6 @@
 -- The list that two instructions come to has the transfers that surely stay and those that surely come.
-use Rattle.std.proofs.Common.{◌≡◌, ℕ, suc, ◌+◌, ◌<◌, ◌≤◌, Bool, true, false, List, [], ◌∷◌, ◌++◌, length, length-append, refl, sym, ◌∙◌, ap, subst, arith}
+use Rattle.std.proofs.Common.{◌≡◌, ℕ, suc, ◌+◌, ◌<◌, ◌≤◌, Bool, true, false, List, [], ◌∷◌, ◌++◌, length}
+use Rattle.std.proofs.Common.{length-append, refl, sym, ◌∙◌, ap, subst, arith}
 use Rattle.std.specs.Prelude.{not, ◌||◌, ◌&&◌, nat_lt, is_some, if◌then◌else◌, Option, Some, None, filter, ⊤}
 use Rattle.std.specs.List.{list_any}
 use Rattle.std.proofs.lemmas.Bool.{false≢true, true≢false}
@@ -10,7 +11,8 @@ use Rattle.po_term.specs.declared.term.Sym.{Sym}
 use Rattle.po_term.specs.declared.transfer.Transfer.{Transfer}
 use Rattle.po_term.specs.Tree.{Const, Leaf, Read, Unary, Binary, EachLeaf}
 use Rattle.po_term.specs.Terms.{Place, InReg, AtSym, PlainTerm}
-use Rattle.po_term.specs.Moves.{GoTo, IfCc, IfTwo, CallOf, Return, SetTo, CcTo, StoreTo, Ends, PlainMove, move_of, moves_of}
+use Rattle.po_term.specs.Moves.{GoTo, IfCc, IfTwo, CallOf, Return, SetTo, CcTo, StoreTo, Ends, PlainMove, move_of}
+use Rattle.po_term.specs.Moves.{moves_of}
 use Rattle.po_term.specs.Kinds.{words, Met, give}
 use Rattle.po_term.specs.Simplified.{same_register, simple, simple_move, simple_moves}
 use Rattle.po_simplify.proofs.Leaves.{simple_leaves}
@@ -18,7 +20,8 @@ use Rattle.po_model.specs.declared.var.Var.TheVariants.{Reg}
 use Rattle.po_model.specs.LiveAfter.{term_reads}
 use Rattle.po_model.specs.Parts.{code_leaves, cc_of}
 use Rattle.po_model.specs.Forward.{and_some, forward}
-use Rattle.po_model.specs.Joined.{Joint, NotJoined, NothingLeft, AsOne, is_set, is_cc, is_store, is_control, is_wanted, is_kept, in_order, assembled, forward_move, forward_moves, joined}
+use Rattle.po_model.specs.Joined.{Joint, NotJoined, NothingLeft, AsOne, is_set, is_cc, is_store, is_control, is_wanted}
+use Rattle.po_model.specs.Joined.{is_kept, in_order, assembled, forward_move, forward_moves, joined}
 use Rattle.po_subst.specs.JoinedMoves.{at_most}
 use Rattle.po_subst.specs.KeepsEffect.{OfList}
 use Rattle.po_subst.specs.Least.{may_read, stays, comes}
@@ -35,7 +38,8 @@ count_append : (p : PlainMove → Bool) (xs ys : List PlainMove)
 count_append p xs ys = ap length (filter-append p xs ys) ∙ length-append (filter p xs) (filter p ys)
 
 each_kind : (ms : List PlainMove)
-    → ((length (filter is_set ms) + length (filter is_cc ms)) + length (filter is_store ms)) + length (filter is_control ms) ≡ length ms
+    → ((length (filter is_set ms) + length (filter is_cc ms)) + length (filter is_store ms))
+    + length (filter is_control ms) ≡ length ms
 each_kind [] = refl
 each_kind (SetTo r t ∷ ms) = omega (arith, each_kind ms)
 each_kind (CcTo t u ∷ ms) = omega (arith, each_kind ms)
@@ -115,20 +119,23 @@ module _ (live : Register → Bool) (cc_live : Bool) (b : List PlainMove) where
           → length (one_if (k && not f) (SetTo r t))
           ≤ length (filter is_moving (one_if k (SetTo r (simple words same_register t).got)))
       go true false e =
-          rw (moves_on r (simple words same_register t).got (simple_leaves words same_register (Other r) t (other_leaves r t e)))
+          rw (moves_on r (simple words same_register t).got
+          (simple_leaves words same_register (Other r) t (other_leaves r t e)))
           (omega arith)
       go true true e = omega arith
       go false f e = omega arith
   stays_one (CcTo t u) = go (kept (CcTo t u))
     where
       go : (k : Bool) → length (one_if (k && true) (CcTo t u))
-          ≤ length (filter is_moving (one_if k (CcTo (simple words same_register t).got (simple words same_register u).got)))
+          ≤ length (filter is_moving
+          (one_if k (CcTo (simple words same_register t).got (simple words same_register u).got)))
       go true = omega arith
       go false = omega arith
   stays_one (StoreTo t u) = go (kept (StoreTo t u))
     where
       go : (k : Bool) → length (one_if (k && true) (StoreTo t u))
-          ≤ length (filter is_moving (one_if k (StoreTo (simple words same_register t).got (simple words same_register u).got)))
+          ≤ length (filter is_moving
+          (one_if k (StoreTo (simple words same_register t).got (simple words same_register u).got)))
       go true = omega arith
       go false = omega arith
   stays_one (Ends x) = omega arith
@@ -140,8 +147,10 @@ module _ (live : Register → Bool) (cc_live : Bool) (b : List PlainMove) where
       let xs = (simple_move words same_register m).got in
       let ys = (simple_moves words same_register ms).got in
       let left = count_append (stays live cc_live b) (m ∷ []) ms in
-      let right : length (filter is_moving (filter kept (xs ++ ys))) ≡ length (filter is_moving (filter kept xs)) + length (filter is_moving (filter kept ys))
-      = ap (λ zs. length (filter is_moving zs)) (filter-append kept xs ys) ∙ count_append is_moving (filter kept xs) (filter kept ys) in
+      let right : length (filter is_moving (filter kept (xs ++ ys)))
+      ≡ length (filter is_moving (filter kept xs)) + length (filter is_moving (filter kept ys))
+      = ap (λ zs. length (filter is_moving zs)) (filter-append kept xs ys)
+      ∙ count_append is_moving (filter kept xs) (filter kept ys) in
       omega (arith, left, right, stays_one m, staying_least ms)
 
 -- What comes of B
@@ -162,7 +171,8 @@ none_there : {X : Type 0} (o : Option X) → not (is_some o) ≡ true → o ≡ 
 none_there None e = refl
 none_there (Some x) e = absurd (false≢true e)
 
-module _ (live : Register → Bool) (cc_live : Bool) (a : List PlainMove) (no_control : list_any is_control a ≡ false) where
+module _ (live : Register → Bool) (cc_live : Bool) (a : List PlainMove)
+    (no_control : list_any is_control a ≡ false) where
   abbrev simple_a : List PlainMove
   simple_a = (simple_moves words same_register a).got
 
@@ -178,21 +188,28 @@ module _ (live : Register → Bool) (cc_live : Bool) (a : List PlainMove) (no_co
           → Where (forward_move words code_leaves simple_a (SetTo r t)).got Some_move
       go false false i j k =
           let has = simplified_carries (Other r) ⊤ Free Free a no_control (other_carries r a j) in
-          some_where (EachLeaf (Other r)) Some_move (forward words code_leaves simple_a t) (λ x. give (Some (SetTo r x ∷ [])))
-          (forward_leaves (Other r) ⊤ Free Free (Other r) ⊤ simple_a has (λ p h o. h) (λ c o. tt) t (other_leaves r t i))
+          some_where (EachLeaf (Other r)) Some_move (forward words code_leaves simple_a t)
+          (λ x. give (Some (SetTo r x ∷ [])))
+          (forward_leaves (Other r) ⊤ Free Free (Other r) ⊤ simple_a has (λ p h o. h) (λ c o. tt) t
+          (other_leaves r t i))
           (λ x h. rw (moves_on r x h) (omega arith))
       go false true i j k = absurd (false≢true k)
       go true y i j k = absurd (false≢true k)
 
-  two_come : (t u : PlainTerm) (make : PlainTerm → PlainTerm → PlainMove) → ((x y : PlainTerm) → Some_move (make x y ∷ []))
-      → Where (and_some (forward words code_leaves simple_a t) (λ x. and_some (forward words code_leaves simple_a u) (λ y. give (Some (make x y ∷ []))))).got Some_move
+  two_come : (t u : PlainTerm) (make : PlainTerm → PlainTerm → PlainMove)
+      → ((x y : PlainTerm) → Some_move (make x y ∷ []))
+      → Where
+      (and_some (forward words code_leaves simple_a t)
+      (λ x. and_some (forward words code_leaves simple_a u) (λ y. give (Some (make x y ∷ []))))).got Some_move
   two_come t u make h =
-      some_where Free Some_move (forward words code_leaves simple_a t) (λ x. and_some (forward words code_leaves simple_a u) (λ y. give (Some (make x y ∷ []))))
+      some_where Free Some_move (forward words code_leaves simple_a t)
+      (λ x. and_some (forward words code_leaves simple_a u) (λ y. give (Some (make x y ∷ []))))
       (any_where (forward words code_leaves simple_a t).got)
       (λ x i. some_where Free Some_move (forward words code_leaves simple_a u) (λ y. give (Some (make x y ∷ [])))
       (any_where (forward words code_leaves simple_a u).got) (λ y j. h x y))
 
-  comes_where : (m : PlainMove) → comes live cc_live a m ≡ true → Where (forward_move words code_leaves simple_a m).got Some_move
+  comes_where : (m : PlainMove) → comes live cc_live a m ≡ true
+      → Where (forward_move words code_leaves simple_a m).got Some_move
   comes_where (SetTo r t) e = go (live r) e
     where
       go : (l : Bool) → (l && (not (term_reads t (Reg r)) && not (list_any (may_read r) a))) ≡ true
@@ -243,23 +260,32 @@ module _ (live : Register → Bool) (cc_live : Bool) (a : List PlainMove) (no_co
           let right = count_append is_moving xs ys in
           omega (arith, left, right, h, i)
 
-      skip : comes live cc_live a m ≡ false → (o : Option (List PlainMove)) → Where o (LeastOf ms) → Where o (LeastOf (m ∷ ms))
+      skip : comes live cc_live a m ≡ false → (o : Option (List PlainMove)) → Where o (LeastOf ms)
+          → Where o (LeastOf (m ∷ ms))
       skip e None h = tt
       skip e (Some xs) h = rw e h
 
       go : (w : Bool) → is_wanted live cc_live m ≡ w
           → Where (forward_moves words code_leaves simple_a (filter (is_wanted live cc_live) ms)).got (LeastOf ms)
-          → Where (forward_moves words code_leaves simple_a (if w then m ∷ filter (is_wanted live cc_live) ms else filter (is_wanted live cc_live) ms)).got (LeastOf (m ∷ ms))
+          → Where
+          (forward_moves words code_leaves simple_a
+          (if w then m ∷ filter (is_wanted live cc_live) ms else filter (is_wanted live cc_live) ms)).got
+          (LeastOf (m ∷ ms))
       go true e ih =
           some_where (Least m) (LeastOf (m ∷ ms)) (forward_move words code_leaves simple_a m)
-          (λ xs. and_some (forward_moves words code_leaves simple_a (filter (is_wanted live cc_live) ms)) (λ ys. give (Some (xs ++ ys)))) (one_where m)
-          (λ xs h. some_where (LeastOf ms) (LeastOf (m ∷ ms)) (forward_moves words code_leaves simple_a (filter (is_wanted live cc_live) ms))
+          (λ xs. and_some (forward_moves words code_leaves simple_a (filter (is_wanted live cc_live) ms))
+          (λ ys. give (Some (xs ++ ys)))) (one_where m)
+          (
+          λ xs h. some_where (LeastOf ms) (LeastOf (m ∷ ms))
+          (forward_moves words code_leaves simple_a (filter (is_wanted live cc_live) ms))
           (λ ys. give (Some (xs ++ ys))) ih (λ ys i. both xs ys h i))
-      go false e ih = skip (unwanted m e) (forward_moves words code_leaves simple_a (filter (is_wanted live cc_live) ms)).got ih
+      go false e ih =
+          skip (unwanted m e) (forward_moves words code_leaves simple_a (filter (is_wanted live cc_live) ms)).got ih
 
 -- The list
 
-cut_longer : (most : ℕ) (j : Joint ℕ Place Register Sym) → OfList j (λ ms. most < length ms) → at_most most j ≡ NotJoined
+cut_longer : (most : ℕ) (j : Joint ℕ Place Register Sym) → OfList j (λ ms. most < length ms)
+    → at_most most j ≡ NotJoined
 cut_longer most NotJoined h = refl
 cut_longer most NothingLeft h = absurd (omega arith)
 cut_longer most (AsOne ms) h = let e : nat_lt most (length ms) ≡ true = grind (arith, nat_tests) in rw e refl
@@ -272,17 +298,21 @@ pub too_long : (most : ℕ) (live : Register → Bool) (cc_live : Bool) (a b : L
     → most < length (filter (stays live cc_live b) a) + length (filter (comes live cc_live a) b)
     → at_most most (joined words code_leaves live cc_live a b).got ≡ NotJoined
 too_long most live cc_live a b more =
-    cut_longer most (joined words code_leaves live cc_live a b).got (joined_where live cc_live a b (λ ms. most < length ms) long)
+    cut_longer most (joined words code_leaves live cc_live a b).got
+    (joined_where live cc_live a b (λ ms. most < length ms) long)
   where
     long : (f : List PlainMove) → Joining live cc_live a b f
         → most < length (assembled code_leaves live cc_live (simplified live cc_live a b) (wanted live cc_live a b) f)
     long f j =
         let s = filter (kept live cc_live b) (simplified live cc_live a b) in
-        let come = found_where (LeastOf live cc_live a j.no_control b) (forward_moves words code_leaves (simplified live cc_live a b) (wanted live cc_live a b)).got f j.made (coming_least live cc_live a j.no_control b) in
+        let come = found_where (LeastOf live cc_live a j.no_control b)
+        (forward_moves words code_leaves (simplified live cc_live a b) (wanted live cc_live a b)).got f j.made
+        (coming_least live cc_live a j.no_control b) in
         omega (arith, more, length_moving (s ++ f), count_append is_moving s f, staying_least live cc_live b a, come)
 
 -- as many transfers pass a test as moves of them
-pub passing : (p : PlainMove → Bool) (ts : List Transfer) → length (filter p (moves_of ts)) ≡ length (filter (λ t. p (move_of t)) ts)
+pub passing : (p : PlainMove → Bool) (ts : List Transfer)
+    → length (filter p (moves_of ts)) ≡ length (filter (λ t. p (move_of t)) ts)
 passing p [] = refl
 passing p (t ∷ ts) = go (p (move_of t)) (passing p ts)
   where

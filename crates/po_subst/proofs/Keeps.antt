@@ -41,6 +41,7 @@ same_effect live cc_live a b j s none k = rw (none, k.control) (go (goes s (endi
   where
     go : (g : Option Control)
         → SameEffect live cc_live a b
-        (option_map (λ c. record { state = after (after s a) b; to = c }) g) (option_map (λ c. record { state = after s j; to = c }) g)
+        (option_map (λ c. record { state = after (after s a) b; to = c }) g)
+        (option_map (λ c. record { state = after s j; to = c }) g)
     go None = tt
     go (Some c) = record { control = refl; memory = k.memory; places = k.places; compared = k.compared }

@@ -57,38 +57,50 @@ meets_of Same s p q h = h
 meets_of Apart s p q h = h
 meets_of Maybe s p q h = tt
 
-choose : (x y : ℕ) (b : Bool) → (b ≡ true → x ≡ y) → (b ≡ false → x ≢ y) → Apartness (if b then give {K = ℕ} Same else give {K = ℕ} Apart).got x y
+choose : (x y : ℕ) (b : Bool) → (b ≡ true → x ≡ y) → (b ≡ false → x ≢ y)
+    → Apartness (if b then give {K = ℕ} Same else give {K = ℕ} Apart).got x y
 choose x y true f g = f refl
 choose x y false f g = g refl
 
 ne_of : (c d : ℕ) → (c == d) ≡ false → c ≢ d
 ne_of c d e = grind arith
 
-offsets_apart : (b : Option ℕ) (c d : Option ℕ) → IsWord b → IsWord c → IsWord d → Apartness (by_offsets words code_leaves c d).got (sum_of b c) (sum_of b d)
+offsets_apart : (b : Option ℕ) (c d : Option ℕ) → IsWord b → IsWord c → IsWord d
+    → Apartness (by_offsets words code_leaves c d).got (sum_of b c) (sum_of b d)
 offsets_apart (Some b) (Some c) (Some d) h i j =
-    choose (bin_value Add b c) (bin_value Add b d) (c == d) (λ e. ap (bin_value Add b) (eqb-true c d e)) (λ e f. ne_of c d e (omega arith))
+    choose (bin_value Add b c) (bin_value Add b d) (c == d) (λ e. ap (bin_value Add b) (eqb-true c d e))
+    (λ e f. ne_of c d e (omega arith))
 offsets_apart (Some b) (Some c) None h i j =
-    choose (bin_value Add b c) b (c == 0) (λ e. let z : c ≡ 0 = eqb-true c 0 e in omega arith) (λ e f. ne_of c 0 e (omega arith))
+    choose (bin_value Add b c) b (c == 0) (λ e. let z : c ≡ 0 = eqb-true c 0 e in omega arith)
+    (λ e f. ne_of c 0 e (omega arith))
 offsets_apart (Some b) None (Some d) h i j =
-    choose b (bin_value Add b d) (d == 0) (λ e. let z : d ≡ 0 = eqb-true d 0 e in omega arith) (λ e f. ne_of d 0 e (omega arith))
+    choose b (bin_value Add b d) (d == 0) (λ e. let z : d ≡ 0 = eqb-true d 0 e in omega arith)
+    (λ e f. ne_of d 0 e (omega arith))
 offsets_apart (Some b) None None h i j = refl
 offsets_apart None (Some c) (Some d) h i j = choose c d (c == d) (λ e. eqb-true c d e) (λ e. ne_of c d e)
 offsets_apart None (Some c) None h i j = choose c 0 (c == 0) (λ e. eqb-true c 0 e) (λ e. ne_of c 0 e)
 offsets_apart None None (Some d) h i j = choose 0 d (d == 0) (λ e. sym (eqb-true d 0 e)) (λ e f. ne_of d 0 e (sym f))
 offsets_apart None None None h i j = refl
 
-bases_apart : (s : State) (u v : Option (Tree ℕ Place)) (c d : Option ℕ) → IsWord (option_value s u) → IsWord c → IsWord d → Apartness (by_bases words code_leaves u v (by_offsets words code_leaves c d)).got (sum_of (option_value s u) c) (sum_of (option_value s v) d)
+bases_apart : (s : State) (u v : Option (Tree ℕ Place)) (c d : Option ℕ) → IsWord (option_value s u) → IsWord c
+    → IsWord d
+    → Apartness (by_bases words code_leaves u v (by_offsets words code_leaves c d)).got (sum_of (option_value s u) c)
+    (sum_of (option_value s v) d)
 bases_apart s None None c d h i j = offsets_apart None c d tt i j
 bases_apart s None (Some v) c d h i j = tt
 bases_apart s (Some u) None c d h i j = tt
 bases_apart s (Some u) (Some v) c d h i j = go (agree words code_leaves u v).got refl
   where
-    go : (yes : Bool) → (agree words code_leaves u v).got ≡ yes → Apartness (if yes then by_offsets words code_leaves c d else give {K = ℕ} Maybe).got (sum_of (Some (value s u)) c) (sum_of (Some (value s v)) d)
+    go : (yes : Bool) → (agree words code_leaves u v).got ≡ yes
+        → Apartness (if yes then by_offsets words code_leaves c d else give {K = ℕ} Maybe).got
+        (sum_of (Some (value s u)) c) (sum_of (Some (value s v)) d)
     go true e = rw (← agree_one u v e) (offsets_apart (Some (value s u)) c d h i j)
     go false e = tt
 
-pub alias_right : (s : State) → IsState s → (p q : Tree ℕ Place) → HasWords p → HasWords q → Meets (alias_of words code_leaves p q).got s p q
+pub alias_right : (s : State) → IsState s → (p q : Tree ℕ Place) → HasWords p → HasWords q
+    → Meets (alias_of words code_leaves p q).got s p q
 alias_right s fits p q h i =
     meets_of (alias_of words code_leaves p q).got s p q
     (rw (value_parts s p, value_parts s q)
-    (bases_apart s (base_of p) (base_of q) (offset_of p) (offset_of q) (base_fits s fits p h) (offset_fits p h) (offset_fits q i)))
+    (bases_apart s (base_of p) (base_of q) (offset_of p) (offset_of q) (base_fits s fits p h) (offset_fits p h)
+    (offset_fits q i)))

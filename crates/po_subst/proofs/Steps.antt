@@ -16,10 +16,14 @@ abbrev pub found_both : Option (List PlainMove) → Option (List PlainMove) → 
 found_both None ys = None
 found_both (Some xs) ys = option_map (λ zs. xs ++ zs) ys
 
-both_met : (m n : Met ℕ (Option (List PlainMove))) → (and_some m (λ xs. and_some n (λ ys. give (Some (xs ++ ys))))).got ≡ found_both m.got n.got
+both_met : (m n : Met ℕ (Option (List PlainMove)))
+    → (and_some m (λ xs. and_some n (λ ys. give (Some (xs ++ ys))))).got ≡ found_both m.got n.got
 both_met m n = go m.got n.got
   where
-    go : (a b : Option (List PlainMove)) → (with_some {K = ℕ} a (λ xs. and_then (record { got = b; asked = n.asked }) (λ r. with_some r (λ ys. give (Some (xs ++ ys)))))).got ≡ found_both a b
+    go : (a b : Option (List PlainMove))
+        → (with_some {K = ℕ} a
+        (λ xs. and_then (record { got = b; asked = n.asked }) (λ r. with_some r (λ ys. give (Some (xs ++ ys)))))).got
+        ≡ found_both a b
     go None b = refl
     go (Some xs) None = refl
     go (Some xs) (Some ys) = refl
@@ -30,15 +34,25 @@ nothing_first (Some ys) = refl
 
 module _ (live : Register → Bool) (cc_live : Bool) (a : List PlainMove) where
   -- the wanted moves, the first before the others
-  pub wanted_first : (m : PlainMove) (ms : List PlainMove) → (forward_moves words code_leaves a (filter (is_wanted live cc_live) (m ∷ ms))).got ≡ found_both (wanted_move live cc_live a m) (forward_moves words code_leaves a (filter (is_wanted live cc_live) ms)).got
+  pub wanted_first : (m : PlainMove) (ms : List PlainMove)
+      → (forward_moves words code_leaves a (filter (is_wanted live cc_live) (m ∷ ms))).got
+      ≡ found_both (wanted_move live cc_live a m)
+      (forward_moves words code_leaves a (filter (is_wanted live cc_live) ms)).got
   wanted_first m ms = go (is_wanted live cc_live m)
     where
-      go : (b : Bool) → (forward_moves words code_leaves a (if b then m ∷ filter (is_wanted live cc_live) ms else filter (is_wanted live cc_live) ms)).got ≡ found_both (if b then (forward_move words code_leaves a m).got else Some []) (forward_moves words code_leaves a (filter (is_wanted live cc_live) ms)).got
-      go true = both_met (forward_move words code_leaves a m) (forward_moves words code_leaves a (filter (is_wanted live cc_live) ms))
+      go : (b : Bool)
+          → (forward_moves words code_leaves a
+          (if b then m ∷ filter (is_wanted live cc_live) ms else filter (is_wanted live cc_live) ms)).got
+          ≡ found_both (if b then (forward_move words code_leaves a m).got else Some [])
+          (forward_moves words code_leaves a (filter (is_wanted live cc_live) ms)).got
+      go true =
+          both_met (forward_move words code_leaves a m)
+          (forward_moves words code_leaves a (filter (is_wanted live cc_live) ms))
       go false = sym (nothing_first (forward_moves words code_leaves a (filter (is_wanted live cc_live) ms)).got)
 
 -- after a transfer that is known
-pub behind_known : (xs ys : List Transfer) (found rest : Option (List PlainMove)) → known_moves true ys ≡ behind xs found → behind ys rest ≡ behind xs (found_both found rest)
+pub behind_known : (xs ys : List Transfer) (found rest : Option (List PlainMove))
+    → known_moves true ys ≡ behind xs found → behind ys rest ≡ behind xs (found_both found rest)
 behind_known xs ys None rest e = cc
 behind_known xs ys (Some zs) None e = refl
 behind_known xs ys (Some zs) (Some us) e =
@@ -46,6 +60,7 @@ behind_known xs ys (Some zs) (Some us) e =
     ap Some (ap (λ ws. ws ++ us) f ∙ append_assoc (moves_of xs) zs us)
 
 -- after one that isn't
-pub behind_unknown : (xs ys : List Transfer) (found rest : Option (List PlainMove)) → known_moves false ys ≡ behind xs found → None ≡ behind xs (found_both found rest)
+pub behind_unknown : (xs ys : List Transfer) (found rest : Option (List PlainMove))
+    → known_moves false ys ≡ behind xs found → None ≡ behind xs (found_both found rest)
 behind_unknown xs ys None rest e = refl
 behind_unknown xs ys (Some zs) rest e = cc

@@ -10,7 +10,8 @@ use Rattle.po_term.specs.Kinds.{words, give, and_then}
 use Rattle.po_term.specs.Simplified.{reg_eq, same_register, simple_moves}
 use Rattle.po_model.specs.Parts.{code_leaves, right_at, cc_of, store_of}
 use Rattle.po_model.specs.Pairs.{is_set_in}
-use Rattle.po_model.specs.Joined.{NotJoined, is_control, is_away, is_wanted, is_kept, in_order, covers, listed, forward_moves, with_forwarded, join_simple, joined}
+use Rattle.po_model.specs.Joined.{NotJoined, is_control, is_away, is_wanted, is_kept, in_order, covers, listed}
+use Rattle.po_model.specs.Joined.{forward_moves, with_forwarded, join_simple, joined}
 use Rattle.po_subst.specs.Order.{is_moving}
 use Rattle.po_subst.proofs.Agreeing.{reg_self}
 use Rattle.po_subst.proofs.Alike.{or_false}
@@ -42,7 +43,8 @@ module _ (f g : Register → Bool) (cc_live : Bool) where
   same_of (StoreTo t u ∷ ms) h = same_of ms h
   same_of (Ends x ∷ ms) h = same_of ms h
 
-  same_simple : (ms : List PlainMove) → list_any is_control ms ≡ false → SameOf ms → SameOf (simple_moves words same_register ms).got
+  same_simple : (ms : List PlainMove) → list_any is_control ms ≡ false → SameOf ms
+      → SameOf (simple_moves words same_register ms).got
   same_simple [] n h = tt
   same_simple (SetTo q t ∷ ms) n h = (h.0, same_simple ms n h.1)
   same_simple (CcTo t u ∷ ms) n h = same_simple ms n h
@@ -78,10 +80,12 @@ module _ (f g : Register → Bool) (cc_live : Bool) where
       listed_same w x y e c = ap (λ zs. if c then listed (filter is_moving (in_order (zs ++ w))) else NotJoined) e
 
       by_forwarded : (w : List PlainMove) → SameOf simple_a → (o : Option (List PlainMove))
-          → (with_forwarded words code_leaves f cc_live simple_a w o).got ≡ (with_forwarded words code_leaves g cc_live simple_a w o).got
+          → (with_forwarded words code_leaves f cc_live simple_a w o).got
+          ≡ (with_forwarded words code_leaves g cc_live simple_a w o).got
       by_forwarded w h None = refl
       by_forwarded w h (Some x) =
-          listed_same x (filter (is_kept code_leaves f cc_live w) simple_a) (filter (is_kept code_leaves g cc_live w) simple_a) (kept_same w simple_a h)
+          listed_same x (filter (is_kept code_leaves f cc_live w) simple_a)
+          (filter (is_kept code_leaves g cc_live w) simple_a) (kept_same w simple_a h)
           (covers words code_leaves (store_of simple_a) (store_of x)).got
 
       simple_same : list_any is_control a ≡ false
@@ -91,10 +95,15 @@ module _ (f g : Register → Bool) (cc_live : Bool) where
           let first = same_simple a n (same_of a (λ r e. h r (left_true (is_set_in a r) (is_set_in b r) e))) in
           let second = wanted_same b (same_of b (λ r e. h r (right_true (is_set_in a r) (is_set_in b r) e))) in
           ap (λ w. (join_simple words code_leaves f cc_live simple_a w).got) second
-          ∙ by_forwarded (filter (is_wanted g cc_live) b) first (forward_moves words code_leaves simple_a (filter (is_wanted g cc_live) b)).got
+          ∙ by_forwarded (filter (is_wanted g cc_live) b) first
+          (forward_moves words code_leaves simple_a (filter (is_wanted g cc_live) b)).got
 
       go : (c : Bool) → (list_any is_control a || list_any is_away b) ≡ c
-          → (if c then give NotJoined else and_then (simple_moves words same_register a) (λ s. join_simple words code_leaves f cc_live s (filter (is_wanted f cc_live) b))).got
-          ≡ (if c then give NotJoined else and_then (simple_moves words same_register a) (λ s. join_simple words code_leaves g cc_live s (filter (is_wanted g cc_live) b))).got
+          → (if c then give NotJoined
+          else and_then (simple_moves words same_register a)
+          (λ s. join_simple words code_leaves f cc_live s (filter (is_wanted f cc_live) b))).got
+          ≡ (if c then give NotJoined
+          else and_then (simple_moves words same_register a)
+          (λ s. join_simple words code_leaves g cc_live s (filter (is_wanted g cc_live) b))).got
       go true e = refl
       go false e = simple_same (or_false (list_any is_control a) (list_any is_away b) e).0

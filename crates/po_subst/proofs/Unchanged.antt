@@ -14,7 +14,8 @@ use Rattle.po_term.specs.Simplified.{reg_eq, same_register, make_plus, binary_of
 
 -- two registers that aren't one
 pub registers_stay : (o : Bin) (r q : Register) → reg_eq r q ≡ false
-    → (binary_of words same_register o (Leaf (InReg r)) (Leaf (InReg q))).got ≡ Binary o (Leaf (InReg r)) (Leaf (InReg q))
+    → (binary_of words same_register o (Leaf (InReg r)) (Leaf (InReg q))).got
+    ≡ Binary o (Leaf (InReg r)) (Leaf (InReg q))
 unfolding make_plus
 registers_stay Add r q e = refl
 registers_stay Sub r q e = rw e refl
@@ -33,7 +34,8 @@ unfolding make_plus
 sum_stays r c e = rw e refl
 
 -- a register under an operator
-pub register_stays : (o : Un) (r : Register) → (unary_of words same_register o (Leaf (InReg r))).got ≡ Unary o (Leaf (InReg r))
+pub register_stays : (o : Un) (r : Register)
+    → (unary_of words same_register o (Leaf (InReg r))).got ≡ Unary o (Leaf (InReg r))
 register_stays Neg r = refl
 register_stays Not r = refl
 

@@ -6,7 +6,8 @@ ghost use Rattle.po_term.specs.Kinds.{words};
 ghost use Rattle.po_term.specs.Simplified.{same_register, simple_moves};
 ghost use Rattle.po_model.specs.LiveSet.{is_live};
 ghost use Rattle.po_model.specs.Parts.{code_leaves, store_of};
-ghost use Rattle.po_model.specs.Joined.{is_control, is_away, is_wanted, covers, with_forwarded, join_simple, listed, joined};
+ghost use Rattle.po_model.specs.Joined.{is_control, is_away, is_wanted, covers, with_forwarded, join_simple, listed};
+ghost use Rattle.po_model.specs.Joined.{joined};
 ghost use Rattle.po_subst.specs.JoinedMoves.{joint_of, at_most};
 ghost use Rattle.po_subst.specs.Seen.{is_among};
 
@@ -125,7 +126,8 @@ fn join(
     cc_live: bool,
 ) -> Result<Joined, OutOfMemory>
     ensures { IfOk result (λ j. joint_of j
-        ≡ (join_simple words code_leaves (is_among live.now) cc_live (simple_moves words same_register (instr_of a.now)).got
+        ≡ (join_simple words code_leaves (is_among live.now) cc_live
+        (simple_moves words same_register (instr_of a.now)).got
         (filter (is_wanted (is_among live.now) cc_live) (instr_of b.now))).got) }
 {
     if is_simple(a) {
@@ -174,9 +176,9 @@ pub fn together(alloc: Global, p: &Pair) -> Result<Joined, OutOfMemory>
     Ok(joined)
 }
 
-/// What two instructions come to with these registers live after them, and `cc` or not, where a list of more than `most`
-/// transfers is none: they stay two then (docs/OPTIMISER.md, "Combination"). A list that surely has more isn't made. It
-/// fails only where memory is refused.
+/// What two instructions come to with these registers live after them, and `cc` or not, where a list of more than
+/// `most` transfers is none: they stay two then (docs/OPTIMISER.md, "Combination"). A list that surely has more isn't
+/// made. It fails only where memory is refused.
 pub fn together_within(
     alloc: Global,
     most: usize,

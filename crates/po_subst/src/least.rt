@@ -73,7 +73,9 @@ fn stays(t: &Transfer, b: &Instr, live: &[Register], cc_live: bool) -> bool
 
 /// Whether a register surely comes to be set to another term than itself.
 fn comes_set(r: Register, u: &Term, a: &Instr, live: &[Register]) -> bool
-    ensures { result ≡ (is_among live.now r && (not (term_reads (tree_of u.now) (Reg r)) && not (list_any (may_read r) (instr_of a.now)))) }
+    ensures { result
+        ≡ (is_among live.now r
+        && (not (term_reads (tree_of u.now) (Reg r)) && not (list_any (may_read r) (instr_of a.now)))) }
 {
     lives(live, r) && !has(u, r) && !is_read(a, r)
 }

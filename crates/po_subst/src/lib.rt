@@ -4,9 +4,9 @@
 //!
 //! `addresses` compares addresses, `parts` finds what an instruction sets, compares and stores, `forwarding` reads a
 //! term and `transfers` a whole transfer through an instruction, `choosing` says which transfers count by what is
-//! live, `order` puts them in order, and `joining` makes one list of a pair; `simple` sees where the first instruction is
-//! simplified already, and `least` where the list is too long. Each call gives what its definition in po_model says, seen
-//! as plain moves.
+//! live, `order` puts them in order, and `joining` makes one list of a pair; `simple` sees where the first instruction
+//! is simplified already, and `least` where the list is too long. Each call gives what its definition in po_model
+//! says, seen as plain moves.
 //!
 //! Its tests stand in `po_code_rows`.
 #![tactic(auto)]

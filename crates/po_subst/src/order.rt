@@ -89,7 +89,8 @@ fn add_where_kept(
     cc_live: bool,
 ) -> Result<(), OutOfMemory>
     ensures { OnOk result ((ms : List PlainMove) → with_rest by_kind.new ms
-        ≡ with_rest by_kind.old (kept_beside (is_among live.now) cc_live (instr_of b.now) (move_of t.now ∷ []) ++ ms)) }
+        ≡ with_rest by_kind.old
+        (kept_beside (is_among live.now) cc_live (instr_of b.now) (move_of t.now ∷ []) ++ ms)) }
 {
     if is_kept(t, b, live, cc_live) {
         add_copy(alloc, by_kind, t)

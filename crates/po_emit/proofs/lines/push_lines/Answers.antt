@@ -8,8 +8,11 @@ use Rattle.po_emit.proofs.lines.push_lines.Goals as goal
 pub loop-i-preserved : goal.loop-i-preserved
 loop-i-preserved c = record {
   text = λ live b same.
-      lines_turn c.args.m.now (machine_at c.args.regs.now) (unit_of c.args.u.now) live b c.args.xs.now c.loop-i.i c.index-xs-i.result c.deref.result.now
-      c.cc_live_at.result c.loop-i.out.items c.push_line.new.out.items _ c.loop-i-test.true c.index-xs-i.is c.deref.ensures.value
-      (c.cc_live_at.ensures ∙ sym (same c.loop-i.i)) c.in_ok-push_line.ensures.ok (c.loop-i.invariant.text live b same);
+      lines_turn c.args.m.now (machine_at c.args.regs.now) (unit_of c.args.u.now) live b c.args.xs.now c.loop-i.i
+      c.index-xs-i.result c.deref.result.now
+      c.cc_live_at.result c.loop-i.out.items c.push_line.new.out.items _ c.loop-i-test.true c.index-xs-i.is
+      c.deref.ensures.value
+      (c.cc_live_at.ensures ∙ sym (same c.loop-i.i)) c.in_ok-push_line.ensures.ok
+      (c.loop-i.invariant.text live b same);
   kept = starts_more _ _ _ _ c.loop-i.invariant.kept c.in_ok-push_line.ensures.ok;
 }

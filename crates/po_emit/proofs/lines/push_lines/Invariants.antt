@@ -11,6 +11,7 @@ use Rattle.po_emit.proofs.lines.push_lines.Given as goal
 abbrev pub invariant-loop-i : goal.invariant-loop-i
 invariant-loop-i l = record {
   text : (live : ℕ → ℕ → Bool) (b : ℕ) → ((i : ℕ) → live b i ≡ flag_at l.lives i)
-      → l.out.items ++ lines_from l.m (machine_at l.regs) (unit_of l.u) live b l.i (instrs_of (drop l.i l.xs)) ≡ l.fn.out.items ++ lines_from l.m (machine_at l.regs) (unit_of l.u) live b 0 (instrs_of l.xs);
+      → l.out.items ++ lines_from l.m (machine_at l.regs) (unit_of l.u) live b l.i (instrs_of (drop l.i l.xs))
+      ≡ l.fn.out.items ++ lines_from l.m (machine_at l.regs) (unit_of l.u) live b 0 (instrs_of l.xs);
   kept : StartsWith l.out.items l.fn.out.items;
 }

@@ -19,9 +19,13 @@ loop-b-preserved c =
     let there = λ (i : ℕ). ap (λ (fs : List Bool). flag_at fs i) (sym c.flags_at.ensures) in
     let out = c.loop-b.out.items in
     let label = label_line (unit_of c.args.u.now) block.label in
-    let lines = lines_from c.args.m.now (machine_at c.args.regs.now) (unit_of c.args.u.now) live j 0 (instrs_of block.instrs.items) in
+    let lines =
+    lines_from c.args.m.now (machine_at c.args.regs.now) (unit_of c.args.u.now) live j 0
+    (instrs_of block.instrs.items) in
     let added : c.push_block.new.out.items ≡ out ++ label ++ lines = c.in_ok-push_block.ensures.ok live j there in
     record {
-      text = blocks_turn c.args.m.now (machine_at c.args.regs.now) (unit_of c.args.u.now) live bs j block out c.push_block.new.out.items _ h e added c.loop-b.invariant.text;
+      text =
+          blocks_turn c.args.m.now (machine_at c.args.regs.now) (unit_of c.args.u.now) live bs j block out
+          c.push_block.new.out.items _ h e added c.loop-b.invariant.text;
       kept = starts_more _ lines (out ++ label) _ (starts_more _ label out _ c.loop-b.invariant.kept refl) added;
     }

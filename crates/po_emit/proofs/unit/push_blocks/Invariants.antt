@@ -11,7 +11,11 @@ use Rattle.po_emit.proofs.unit.push_blocks.Given as goal
 abbrev pub invariant-loop-b : goal.invariant-loop-b
 invariant-loop-b l = record {
   text :
-      l.out.items ++ blocks_from l.m (machine_at l.regs) (unit_of l.u) (λ b i. flag_at (flags_at l.lives b) i) l.b (map block_of (drop l.b l.u.code.blocks.items))
-      ≡ l.fn.out.items ++ blocks_from l.m (machine_at l.regs) (unit_of l.u) (λ b i. flag_at (flags_at l.lives b) i) 0 (map block_of l.u.code.blocks.items);
+      l.out.items
+      ++ blocks_from l.m (machine_at l.regs) (unit_of l.u) (λ b i. flag_at (flags_at l.lives b) i) l.b
+      (map block_of (drop l.b l.u.code.blocks.items))
+      ≡ l.fn.out.items
+      ++ blocks_from l.m (machine_at l.regs) (unit_of l.u) (λ b i. flag_at (flags_at l.lives b) i) 0
+      (map block_of l.u.code.blocks.items);
   kept : StartsWith l.out.items l.fn.out.items;
 }

@@ -26,7 +26,9 @@ returns-clause-ok c =
       gives = λ v. ap (λ (regs : List ℕ). machine_at regs v) c.deref-2.ensures.value ∙ c.in_ok-regs.ensures v
           ∙ ap (λ (pairs : List (ℕ × ℕ)). machine_of pairs v) c.deref.ensures.value;
       live = live;
-      tells = subst (λ (ls : List (Vec Bool)). TellsCc u.code (λ b i. flag_at (flags_at ls b) i)) (sym c.deref-3.ensures.value) tells;
+      tells =
+          subst (λ (ls : List (Vec Bool)). TellsCc u.code (λ b i. flag_at (flags_at ls b) i))
+          (sym c.deref-3.ensures.value) tells;
       lines = refl;
     } in
     on_ok_weaker c.push_blocks.result
@@ -43,4 +45,6 @@ returns-clause-err c =
     let u = unit_of c.args.p.now.unit in
     let old = c.args.out.now.items in
     let name : c.push_name_line.new.out.items ≡ old ++ u.name ++ codes ":\n" = c.in_ok-push_name_line.ensures.ok in
-    on_err_weaker c.push_blocks.result (starts_less old (u.name ++ codes ":\n") _ _ (name ∙ append_assoc old u.name (codes ":\n"))) c.push_blocks.ensures.err
+    on_err_weaker c.push_blocks.result
+    (starts_less old (u.name ++ codes ":\n") _ _ (name ∙ append_assoc old u.name (codes ":\n")))
+    c.push_blocks.ensures.err

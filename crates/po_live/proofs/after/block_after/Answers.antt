@@ -9,6 +9,12 @@ loop-i-preserved c =
     let here : c.loop-i.i - 1 < length c.args.xs.now = omega arith in
     record {
       within = omega arith;
-      live = live_more c.args.xs.now (c.loop-i.i - 1) c.loop-i.i c.index-xs-i.result (holds c.args.out.now) (holds c.loop-i.live) (holds c.step_with_fp.new.live) next here c.index-xs-i.is c.loop-i.invariant.live c.in_ok-step_with_fp.ensures;
-      after = rw (c.in_ok-push_live.ensures) (after_more c.args.xs.now (c.loop-i.i - 1) c.loop-i.i c.index-xs-i.result (holds c.args.out.now) c.in_ok-set_of.field-0 c.loop-i.after.items next here (λ q. c.in_ok-set_of.ensures q ∙ c.loop-i.invariant.live q) c.loop-i.invariant.after);
+      live =
+          live_more c.args.xs.now (c.loop-i.i - 1) c.loop-i.i c.index-xs-i.result (holds c.args.out.now)
+          (holds c.loop-i.live) (holds c.step_with_fp.new.live) next here c.index-xs-i.is c.loop-i.invariant.live
+          c.in_ok-step_with_fp.ensures;
+      after =
+          rw (c.in_ok-push_live.ensures) (after_more c.args.xs.now (c.loop-i.i - 1) c.loop-i.i c.index-xs-i.result
+          (holds c.args.out.now) c.in_ok-set_of.field-0 c.loop-i.after.items next here
+          (λ q. c.in_ok-set_of.ensures q ∙ c.loop-i.invariant.live q) c.loop-i.invariant.after);
     }

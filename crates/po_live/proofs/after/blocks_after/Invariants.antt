@@ -5,4 +5,7 @@ use Rattle.po_live.specs.Sets.{AreAfter, holds_at}
 use Rattle.po_live.proofs.after.blocks_after.Given as goal
 
 abbrev pub invariant-loop-b : goal.invariant-loop-b
-invariant-loop-b l = (length l.after.items ≡ l.b) × ((c : ℕ) → c < l.b → AreAfter (instrs_at (map block_of l.blocks) c) (holds_at l.out c) (lives_at l.after.items c))
+invariant-loop-b l =
+    (length l.after.items ≡ l.b)
+    × ((c : ℕ) → c < l.b
+    → AreAfter (instrs_at (map block_of l.blocks) c) (holds_at l.out c) (lives_at l.after.items c))

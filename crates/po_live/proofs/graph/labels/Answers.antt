@@ -8,5 +8,6 @@ use Rattle.po_live.proofs.graph.labels.Goals as goal
 pub returns-clause-below : goal.returns-clause-below
 returns-clause-below c = λ k q e.
     let rest : List Block = drop c.loop-b.b c.args.blocks.now in
-    let h = block_from_below c.loop-b.b (map block_of rest) (record { 0 = k }) q (sym (c.loop-b.invariant.1 (record { 0 = k })) ∙ e) in
+    let h = block_from_below c.loop-b.b (map block_of rest) (record { 0 = k }) q
+    (sym (c.loop-b.invariant.1 (record { 0 = k })) ∙ e) in
     omega (arith, h, length-map rest block_of, length-drop c.loop-b.b c.args.blocks.now)

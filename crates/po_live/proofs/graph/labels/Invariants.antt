@@ -6,7 +6,9 @@ use Rattle.po_model.specs.Blocks.{block_of, block_from}
 use Rattle.po_live.proofs.graph.labels.Given as goal
 
 abbrev pub invariant-loop-b : goal.invariant-loop-b
-invariant-loop-b l = (l.b ≤ length l.blocks) × ((m : Label) → get nat_cmp l.first m.0 ≡ block_from l.b (map block_of (drop l.b l.blocks)) m)
+invariant-loop-b l =
+    (l.b ≤ length l.blocks)
+    × ((m : Label) → get nat_cmp l.first m.0 ≡ block_from l.b (map block_of (drop l.b l.blocks)) m)
 
 abbrev pub decreases-loop-b : goal.decreases-loop-b
 decreases-loop-b l = l.b

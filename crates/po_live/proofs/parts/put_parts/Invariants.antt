@@ -9,7 +9,8 @@ abbrev pub invariant-loop-i : goal.invariant-loop-i
 invariant-loop-i l = record {
   within : l.i ≤ length l.xs;
   live : (q : Var) → holds l.live q ≡ (is_fp q || back (instrs_of (drop l.i l.xs)) (holds l.out) q);
-  grown : IsGrown l.initial.list.regs.items l.initial.list.parts.items l.list.regs.items l.list.parts.items (instrs_of (drop l.i l.xs)) (holds l.out);
+  grown : IsGrown l.initial.list.regs.items l.initial.list.parts.items l.list.regs.items l.list.parts.items
+      (instrs_of (drop l.i l.xs)) (holds l.out);
   ends : l.list.ends.items ≡ l.initial.list.ends.items;
 }
 

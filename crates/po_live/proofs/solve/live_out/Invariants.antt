@@ -13,4 +13,5 @@ invariant-passing l = record {
 
 -- each turn takes what is due once, and adds no more than it finds
 abbrev pub decreases-passing : goal.decreases-passing
-decreases-passing l = missing_below (vars_of l.initial.work.items) (holds_at l.out.items) (length l.blocks) + length l.work.items
+decreases-passing l =
+    missing_below (vars_of l.initial.work.items) (holds_at l.out.items) (length l.blocks) + length l.work.items

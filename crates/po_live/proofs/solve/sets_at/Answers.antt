@@ -9,4 +9,5 @@ pub returns : goal.returns
 returns c =
     c.some_sets.ensures
     ∙ ap (λ (is : List Instr). sets_any (instrs_of is) c.args.v) c.deref.ensures.value
-    ∙ ap (λ xs. sets_any xs c.args.v) (sym (instrs_there c.args.blocks.now c.args.p c.index-blocks-p.result c.requires))
+    ∙ ap (λ xs. sets_any xs c.args.v)
+    (sym (instrs_there c.args.blocks.now c.args.p c.index-blocks-p.result c.requires))

@@ -9,7 +9,14 @@ use Rattle.po_live.proofs.solve.spread.Given as goal
 abbrev pub invariant-loop-p : goal.invariant-loop-p
 invariant-loop-p l = record {
   long : length l.out ≡ length l.initial.out;
-  out : (b : ℕ) (q : Var) → holds_at l.out b q ≡ ((is_in (take l.p-index l.ps) b && var_eq l.v q) || holds_at l.initial.out b q);
-  work : (b : ℕ) (q : Var) → is_due l.work.items b q ≡ (((is_in (take l.p-index l.ps) b && var_eq l.v q) && (not (holds_at l.initial.out b l.v) && not (sets_any (instrs_at (map block_of l.blocks) b) l.v))) || is_due l.initial.work.items b q);
-  fuel : (us : List Var) → is_among us l.v ≡ true → missing_below us (holds_at l.out) (length l.initial.out) + length l.work.items ≤ missing_below us (holds_at l.initial.out) (length l.initial.out) + length l.initial.work.items;
+  out : (b : ℕ) (q : Var)
+      → holds_at l.out b q ≡ ((is_in (take l.p-index l.ps) b && var_eq l.v q) || holds_at l.initial.out b q);
+  work : (b : ℕ) (q : Var)
+      → is_due l.work.items b q
+      ≡ (((is_in (take l.p-index l.ps) b && var_eq l.v q)
+      && (not (holds_at l.initial.out b l.v) && not (sets_any (instrs_at (map block_of l.blocks) b) l.v)))
+      || is_due l.initial.work.items b q);
+  fuel : (us : List Var) → is_among us l.v ≡ true
+      → missing_below us (holds_at l.out) (length l.initial.out) + length l.work.items
+      ≤ missing_below us (holds_at l.initial.out) (length l.initial.out) + length l.initial.work.items;
 }

@@ -6,4 +6,6 @@ use Rattle.po_live.specs.Due.{is_due}
 use Rattle.po_live.proofs.solve.starts.Given as goal
 
 abbrev pub invariant-loop-b : goal.invariant-loop-b
-invariant-loop-b l = (c : ℕ) (q : Var) → is_due l.work.items c q ≡ (nat_lt c l.b && back (instrs_at (map block_of l.blocks) c) nothing q)
+invariant-loop-b l =
+    (c : ℕ) (q : Var)
+    → is_due l.work.items c q ≡ (nat_lt c l.b && back (instrs_at (map block_of l.blocks) c) nothing q)

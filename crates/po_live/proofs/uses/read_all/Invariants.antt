@@ -7,4 +7,6 @@ use Rattle.po_model.specs.LiveAfter.{move_reads}
 use Rattle.po_live.proofs.uses.read_all.Given as goal
 
 abbrev pub invariant-loop-t : goal.invariant-loop-t
-invariant-loop-t l = (q : Var) → holds l.live q ≡ (list_any (λ t. move_reads (move_of t) q) (take l.t-index l.xs) || holds l.initial.live q)
+invariant-loop-t l =
+    (q : Var)
+    → holds l.live q ≡ (list_any (λ t. move_reads (move_of t) q) (take l.t-index l.xs) || holds l.initial.live q)

@@ -7,4 +7,6 @@ use Rattle.po_live.proofs.uses.unset_all.Goals as goal
 pub returns : goal.returns
 returns c =
     let end : c.loop-t.t-index ≡ length c.args.xs.now = omega arith in
-    λ q. c.loop-t.invariant q ∙ ap (λ b. not b && holds c.args.live.now q) (all_moves_seen (λ m. move_sets m q) c.args.xs.now c.loop-t.t-index end)
+    λ q. c.loop-t.invariant q
+    ∙ ap (λ b. not b && holds c.args.live.now q)
+    (all_moves_seen (λ m. move_sets m q) c.args.xs.now c.loop-t.t-index end)

@@ -7,4 +7,7 @@ use Rattle.po_model.specs.LiveAfter.{move_sets}
 use Rattle.po_live.proofs.uses.unset_all.Given as goal
 
 abbrev pub invariant-loop-t : goal.invariant-loop-t
-invariant-loop-t l = (q : Var) → holds l.live q ≡ (not (list_any (λ t. move_sets (move_of t) q) (take l.t-index l.xs)) && holds l.initial.live q)
+invariant-loop-t l =
+    (q : Var)
+    → holds l.live q
+    ≡ (not (list_any (λ t. move_sets (move_of t) q) (take l.t-index l.xs)) && holds l.initial.live q)

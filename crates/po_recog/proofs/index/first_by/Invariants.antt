@@ -9,5 +9,6 @@ use Rattle.po_recog.proofs.index.first_by.Given as goal
 abbrev pub invariant-loop-e : goal.invariant-loop-e
 invariant-loop-e l = record {
   counted : l.number ≡ l.e-index;
-  rest : (first_fit code_leaves words l.cc_live (drop l.e-index l.entries) l.number (moves_of l.xs)).got ≡ (first_fit code_leaves words l.cc_live l.entries 0 (moves_of l.xs)).got;
+  rest : (first_fit code_leaves words l.cc_live (drop l.e-index l.entries) l.number (moves_of l.xs)).got
+      ≡ (first_fit code_leaves words l.cc_live l.entries 0 (moves_of l.xs)).got;
 }

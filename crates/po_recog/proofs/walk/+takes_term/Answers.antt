@@ -5,7 +5,8 @@ use Rattle.po_recog.proofs.walk.+takes_term.Goals as goal
 pub returns-then-takes_term : goal.returns-then-takes_term
 returns-then-takes_term t c =
     rw (c.in-Bin-Bin.is-0, c.in-Bin-Bin.is-1)
-    (binary_walked c.in-Bin-Bin.o c.in-Bin-Bin.r c.same_bin.result c.takes_term-in-Bin-Bin.result c.takes_term-then-takes_term.result
+    (binary_walked c.in-Bin-Bin.o c.in-Bin-Bin.r c.same_bin.result c.takes_term-in-Bin-Bin.result
+    c.takes_term-then-takes_term.result
     c.in-Bin-Bin.p c.in-Bin-Bin.q (tree_of c.in-Bin-Bin.t.value) (tree_of c.in-Bin-Bin.u.value)
     c.args.slots.now c.takes_term-in-Bin-Bin.new.slots c.takes_term-then-takes_term.new.slots
     c.same_bin.ensures c.if-not-same_bin.false

@@ -8,7 +8,9 @@ use Rattle.po_slow.proofs.block.go_on.Given as goal
 abbrev pub invariant-going : goal.invariant-going
 invariant-going l =
     (l.at.done ≤ l.at.next) × (l.at.next ≤ length l.xs)
-    × (on onward (stand_at (instrs_of l.xs) (tells l.lives l.b) l.at.done l.at.next l.at.changed) ≡ on onward (stand_at (instrs_of l.initial.xs) (tells l.lives l.b) l.initial.at.done l.initial.at.next l.initial.at.changed))
+    × (on onward (stand_at (instrs_of l.xs) (tells l.lives l.b) l.at.done l.at.next l.at.changed)
+    ≡ on onward (stand_at (instrs_of l.initial.xs) (tells l.lives l.b) l.initial.at.done l.initial.at.next
+    l.initial.at.changed))
 
 abbrev pub decreases-going : goal.decreases-going
 decreases-going l = length l.initial.xs - l.at.next

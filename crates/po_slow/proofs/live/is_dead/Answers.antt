@@ -9,4 +9,6 @@ use Rattle.po_slow.proofs.live.is_dead.Goals as goal
 pub returns : goal.returns
 returns c =
     let dead = is_dead_move (live_in c.args.live) in
-    c.all_dead.ensures ∙ (ap (list_all (λ t. dead (move_of t))) c.deref.ensures.value ∙ sym (list_all-map dead move_of c.args.i.now.xs.items))
+    c.all_dead.ensures
+    ∙ (ap (list_all (λ t. dead (move_of t))) c.deref.ensures.value
+    ∙ sym (list_all-map dead move_of c.args.i.now.xs.items))

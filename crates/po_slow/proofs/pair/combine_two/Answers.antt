@@ -19,9 +19,13 @@ returns c =
     let both = (joined words code_leaves live c.args.cc_live a b).got in
     let combines : combination_of c.outcome.result ≡ (combined words code_leaves m live c.args.cc_live a b).got
     = c.outcome.ensures
-    ∙ ap (λ j. (recognised words code_leaves m c.args.cc_live j).got) (c.in_ok-joined.ensures ∙ ap (λ n. at_most n both) c.most.ensures)
+    ∙ ap (λ j. (recognised words code_leaves m c.args.cc_live j).got)
+    (c.in_ok-joined.ensures ∙ ap (λ n. at_most n both) c.most.ensures)
     ∙ cut_recognised m c.args.index.now c.args.cc_live both c.requires.index in
     record {
       combines = combines;
-      ahead = λ after same cc_same. combines ∙ combined_ahead m live c.args.cc_live a (record { instr = b; live = after }) (λ r. sym (same r)) (sym cc_same);
+      ahead =
+          λ after same cc_same. combines
+          ∙ combined_ahead m live c.args.cc_live a (record { instr = b; live = after }) (λ r. sym (same r))
+          (sym cc_same);
     }

@@ -10,5 +10,6 @@ use Rattle.po_slow.proofs.pair.of_pair.Goals as goal
 pub returns : goal.returns
 returns c =
     let p = c.args.p.now in
-    subst (λ (rs : List Register). combination_of c.in_ok-outcome.outcome ≡ (combined words code_leaves c.args.m.now (is_among rs) p.live.cc (instr_of p.a) (instr_of p.b)).got)
+    subst (λ (rs : List Register). combination_of c.in_ok-outcome.outcome
+    ≡ (combined words code_leaves c.args.m.now (is_among rs) p.live.cc (instr_of p.a) (instr_of p.b)).got)
     (c.deref.ensures.value ∙ c.in_ok-live.ensures) c.in_ok-outcome.ensures.combines

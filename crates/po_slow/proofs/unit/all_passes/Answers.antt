@@ -9,12 +9,17 @@ pub scan-smaller : goal.scan-smaller
 scan-smaller g c =
     let s = scan_of c.scan.s in
     let t = scan_of c.step.new.s in
-    let o = one_step c.args.m.now s t c.scan.steps c.step.new.steps c.in_ok-step.field-0 c.in_ok-step.ensures.steps c.if-branch.true in
+    let o = one_step c.args.m.now s t c.scan.steps c.step.new.steps c.in_ok-step.field-0 c.in_ok-step.ensures.steps
+    c.if-branch.true in
     step_less (combination c.args.m.now) s t o.step o.goes
 
 pub scan-preserved : goal.scan-preserved
 scan-preserved g c =
     let s = scan_of c.scan.s in
     let t = scan_of c.step.new.s in
-    let o = one_step c.args.m.now s t c.scan.steps c.step.new.steps c.in_ok-step.field-0 c.in_ok-step.ensures.steps c.if-branch.true in
-    (c.in_ok-step.ensures.formed, gone_more c.args.m.now (code_of c.args.code) s t c.args.steps.now c.scan.steps c.step.new.steps c.scan.invariant.1 o)
+    let o = one_step c.args.m.now s t c.scan.steps c.step.new.steps c.in_ok-step.field-0 c.in_ok-step.ensures.steps
+    c.if-branch.true in (
+      c.in_ok-step.ensures.formed,
+      gone_more c.args.m.now (code_of c.args.code) s t c.args.steps.now c.scan.steps c.step.new.steps
+          c.scan.invariant.1 o,
+    )

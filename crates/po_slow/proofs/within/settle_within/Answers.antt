@@ -9,19 +9,30 @@ use Rattle.po_slow.proofs.within.settle_within.Goals as goal
 
 pub settle-requires-clause-inside : goal.settle-requires-clause-inside
 settle-requires-clause-inside c =
-    omega (arith, c.requires.placed.next, instrs_here c.args.blocks.now c.args.lives.now c.args.b c.index-blocks-b.result c.deref_mut.result.now (omega (arith, c.requires.ready.block, length-map c.args.blocks.now block_of)) c.deref_mut.ensures.value)
+    omega (
+      arith,
+      c.requires.placed.next,
+      instrs_here c.args.blocks.now c.args.lives.now c.args.b c.index-blocks-b.result c.deref_mut.result.now
+          (omega (arith, c.requires.ready.block, length-map c.args.blocks.now block_of)) c.deref_mut.ensures.value,
+    )
 
 pub settle-requires-clause-lives : goal.settle-requires-clause-lives
 settle-requires-clause-lives c =
-    parts_here c.args.blocks.now c.args.lives.now c.args.b c.index-blocks-b.result c.deref_mut.result.now c.args.at.now (omega (arith, c.requires.ready.block, length-map c.args.blocks.now block_of)) c.deref_mut.ensures.value c.requires.placed
+    parts_here c.args.blocks.now c.args.lives.now c.args.b c.index-blocks-b.result c.deref_mut.result.now c.args.at.now
+    (omega (arith, c.requires.ready.block, length-map c.args.blocks.now block_of)) c.deref_mut.ensures.value
+    c.requires.placed
 
 pub returns-clause-place : goal.returns-clause-place
 returns-clause-place c =
-    place_written c.args.blocks.now c.args.lives.now c.args.b c.index-blocks-b.result c.settle.new.xs c.deref_mut.result.now c.args.at.now c.settle.new.at (on (settled (combination_of c.args.o)))
-    (omega (arith, c.requires.ready.block, length-map c.args.blocks.now block_of)) c.settle.auto.xs c.deref_mut.ensures.value c.requires.placed c.settle.ensures.settled
+    place_written c.args.blocks.now c.args.lives.now c.args.b c.index-blocks-b.result c.settle.new.xs
+    c.deref_mut.result.now c.args.at.now c.settle.new.at (on (settled (combination_of c.args.o)))
+    (omega (arith, c.requires.ready.block, length-map c.args.blocks.now block_of)) c.settle.auto.xs
+    c.deref_mut.ensures.value c.requires.placed c.settle.ensures.settled
     ∙ settled_within _ _
 
 pub returns-clause-placed : goal.returns-clause-placed
 returns-clause-placed c =
-    placed_written c.args.blocks.now c.args.lives.now c.args.b c.index-blocks-b.result c.settle.new.xs c.deref_mut.result.now c.args.at.now c.settle.new.at
-    (omega (arith, c.requires.ready.block, length-map c.args.blocks.now block_of)) c.settle.auto.xs c.deref_mut.ensures.value c.requires.placed c.settle.ensures.order c.settle.ensures.inside
+    placed_written c.args.blocks.now c.args.lives.now c.args.b c.index-blocks-b.result c.settle.new.xs
+    c.deref_mut.result.now c.args.at.now c.settle.new.at
+    (omega (arith, c.requires.ready.block, length-map c.args.blocks.now block_of)) c.settle.auto.xs
+    c.deref_mut.ensures.value c.requires.placed c.settle.ensures.order c.settle.ensures.inside

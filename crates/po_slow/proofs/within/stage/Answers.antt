@@ -15,10 +15,15 @@ returns-then-at-len c = record {
 
 pub returns-else-at-gt0 : goal.returns-else-at-gt0
 returns-else-at-gt0 c =
-    let block : c.args.b < length (map block_of c.args.blocks.now) = omega (arith, length-map c.args.blocks.now block_of) in (
+    let block : c.args.b < length (map block_of c.args.blocks.now) =
+    omega (arith, length-map c.args.blocks.now block_of) in (
       block,
       elim c.else-at-gt0.branch [
-        | else-at-gt0-via-then-at-gt0+else-at-len w ↦ at_end_next (map block_of c.args.blocks.now) c.args.lives.now c.args.b c.args.at block (omega (arith, instrs_len c.args.blocks.now c.args.b w.index-blocks-b.result c.if-b-blocks.false))
-        | else-at-gt0-via-else-at-gt0 w ↦ at_end_done (map block_of c.args.blocks.now) c.args.lives.now c.args.b c.args.at block c.requires.formed (omega (arith, w.if-at-gt0.false))
+        | else-at-gt0-via-then-at-gt0+else-at-len w ↦
+            at_end_next (map block_of c.args.blocks.now) c.args.lives.now c.args.b c.args.at block
+            (omega (arith, instrs_len c.args.blocks.now c.args.b w.index-blocks-b.result c.if-b-blocks.false))
+        | else-at-gt0-via-else-at-gt0 w ↦
+            at_end_done (map block_of c.args.blocks.now) c.args.lives.now c.args.b c.args.at block c.requires.formed
+            (omega (arith, w.if-at-gt0.false))
       ],
     )

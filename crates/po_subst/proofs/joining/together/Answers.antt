@@ -11,5 +11,6 @@ use Rattle.po_subst.proofs.joining.together.Goals as goal
 pub returns : goal.returns
 returns c =
     let p = c.args.p.now in
-    subst (λ (rs : List Register). joint_of c.in_ok-joined.joined ≡ (joined words code_leaves (is_among rs) p.live.cc (instr_of p.a) (instr_of p.b)).got)
+    subst (λ (rs : List Register). joint_of c.in_ok-joined.joined
+    ≡ (joined words code_leaves (is_among rs) p.live.cc (instr_of p.a) (instr_of p.b)).got)
     (c.deref.ensures.value ∙ c.in_ok-live.ensures) c.in_ok-joined.ensures

@@ -5,7 +5,8 @@ use Rattle.po_subst.proofs.simple.is_simple_pair.Goals as goal
 
 pub returns-in-Reg : goal.returns-in-Reg
 returns-in-Reg c =
-    rw (c.in-Reg.is) (λ e. registers_stay c.args.op c.args.r c.in-Reg.q (sym c.is_one.ensures ∙ not_true c.is_one.result e))
+    rw (c.in-Reg.is)
+    (λ e. registers_stay c.args.op c.args.r c.in-Reg.q (sym c.is_one.ensures ∙ not_true c.is_one.result e))
 
 pub returns-in-Num : goal.returns-in-Num
 returns-in-Num c =

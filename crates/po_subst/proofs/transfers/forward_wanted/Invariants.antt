@@ -11,5 +11,7 @@ use Rattle.po_subst.proofs.transfers.forward_wanted.Given as goal
 -- what is found so far, and then what is still to be forwarded
 abbrev pub invariant-loop-t : goal.invariant-loop-t
 invariant-loop-t l =
-    behind l.xs.items (forward_moves words code_leaves (instr_of l.a) (filter (is_wanted (is_among l.live) l.cc_live) (moves_of (drop l.t-index l.b.xs.items)))).got
-    ≡ (forward_moves words code_leaves (instr_of l.a) (filter (is_wanted (is_among l.live) l.cc_live) (instr_of l.b))).got
+    behind l.xs.items (forward_moves words code_leaves (instr_of l.a)
+    (filter (is_wanted (is_among l.live) l.cc_live) (moves_of (drop l.t-index l.b.xs.items)))).got
+    ≡ (forward_moves words code_leaves (instr_of l.a)
+    (filter (is_wanted (is_among l.live) l.cc_live) (instr_of l.b))).got

@@ -7,7 +7,8 @@ use Rattle.po_slow.proofs.state.ScanState.enter_next.Goals as goal
 pub returns-clause-goes_on : goal.returns-clause-goes_on
 returns-clause-goes_on c =
     let s = c.args.self.now in
-    after_next (code_of s.code) s.lives s.block s.at c.requires.closed (scan_of c.enter.new.self) c.requires.same_pass c.enter.ensures.scan
+    after_next (code_of s.code) s.lives s.block s.at c.requires.closed (scan_of c.enter.new.self) c.requires.same_pass
+    c.enter.ensures.scan
 
 pub returns-clause-formed : goal.returns-clause-formed
 returns-clause-formed c =
@@ -15,5 +16,8 @@ returns-clause-formed c =
     let lives = s.lives in
     record {
       placed = c.enter.ensures.placed;
-      formed = subst IsFormedScan (sym c.enter.ensures.scan) (formed_enter_at (code_of s.code) lives (s.block + 1) s.at.changed (formed_cut (code_of s.code) lives s.block s.at c.requires.closed c.requires.formed.formed));
+      formed =
+          subst IsFormedScan (sym c.enter.ensures.scan)
+          (formed_enter_at (code_of s.code) lives (s.block + 1) s.at.changed
+          (formed_cut (code_of s.code) lives s.block s.at c.requires.closed c.requires.formed.formed));
     }

@@ -8,5 +8,7 @@ pub returns-clause-formed : goal.returns-clause-formed
 returns-clause-formed c =
     record {
       placed = c.enter.ensures.placed;
-      formed = subst IsFormedScan (sym c.enter.ensures.scan) (formed_enter_at (code_of c.args.code) c.in_ok-lives.lives 0 false c.requires);
+      formed =
+          subst IsFormedScan (sym c.enter.ensures.scan)
+          (formed_enter_at (code_of c.args.code) c.in_ok-lives.lives 0 false c.requires);
     }

@@ -13,5 +13,8 @@ returns c =
     let s = c.args.self.now in
     let there : pair_ready (scan_of s) ≡ pair_ready (scan_by (map block_of c.deref.result.now) s.lives s.block s.at)
     = ap (λ l. pair_ready (scan_by (map block_of l) s.lives s.block s.at)) (sym c.deref.ensures.value) in
-    IfOk-weaker c.copy_within.result (λ p. pair_ready (scan_by (map block_of c.deref.result.now) s.lives s.block s.at) ≡ Some (pair_of p)) (λ p. Asks (scan_of s) (ask.Pair p))
-    (λ p e. (there ∙ e, formed_ready (scan_of s) (pair_of p) c.requires.formed.formed (there ∙ e))) c.copy_within.ensures
+    IfOk-weaker c.copy_within.result
+    (λ p. pair_ready (scan_by (map block_of c.deref.result.now) s.lives s.block s.at) ≡ Some (pair_of p))
+    (λ p. Asks (scan_of s) (ask.Pair p))
+    (λ p e. (there ∙ e, formed_ready (scan_of s) (pair_of p) c.requires.formed.formed (there ∙ e)))
+    c.copy_within.ensures

@@ -15,8 +15,14 @@ returns-clause-formed c =
     let xs = c.deref_mut.result.now in
     let at = c.settle_within.new.at in
     let same = new_place v ws xs lives c.settle_within.auto.blocks c.deref_mut.ensures.value s.block at
-    ∙ (c.settle_within.ensures.place ∙ ap (after_try (combination_of c.args.o)) (old_place v ws xs lives c.settle_within.auto.blocks c.deref_mut.ensures.value s.block s.at)) in
+    ∙ (c.settle_within.ensures.place
+    ∙ ap (after_try (combination_of c.args.o))
+    (old_place v ws xs lives c.settle_within.auto.blocks c.deref_mut.ensures.value s.block s.at)) in
     record {
-      placed = new_placed v ws xs lives c.settle_within.auto.blocks c.deref_mut.ensures.value s.block at c.settle_within.ensures.placed;
-      formed = subst IsFormedScan (sym same) (formed_after_try (combination_of c.args.o) (scan_of s) c.requires.formed.formed c.requires.answer);
+      placed =
+          new_placed v ws xs lives c.settle_within.auto.blocks c.deref_mut.ensures.value s.block at
+          c.settle_within.ensures.placed;
+      formed =
+          subst IsFormedScan (sym same)
+          (formed_after_try (combination_of c.args.o) (scan_of s) c.requires.formed.formed c.requires.answer);
     }

@@ -8,7 +8,8 @@ use Rattle.po_slow.proofs.state.ScanState.start_pass.Goals as goal
 pub returns-clause-goes_on : goal.returns-clause-goes_on
 returns-clause-goes_on c =
     let s = c.args.self.now in
-    after_last (code_of s.code) s.lives s.block s.at c.requires.closed (scan_of c.enter.new.self) c.requires.last c.requires.changed
+    after_last (code_of s.code) s.lives s.block s.at c.requires.closed (scan_of c.enter.new.self) c.requires.last
+    c.requires.changed
     (tells c.in_ok-self.field-0, c.in_ok-self.ensures.live, c.enter.ensures.scan)
 
 pub returns-clause-formed : goal.returns-clause-formed
@@ -17,5 +18,7 @@ returns-clause-formed c =
     let f = formed_cut (code_of s.code) s.lives s.block s.at c.requires.closed c.requires.formed.formed in
     record {
       placed = c.enter.ensures.placed;
-      formed = subst IsFormedScan (sym c.enter.ensures.scan) (formed_enter_at (code_of s.code) c.in_ok-self.field-0 0 false f);
+      formed =
+          subst IsFormedScan (sym c.enter.ensures.scan)
+          (formed_enter_at (code_of s.code) c.in_ok-self.field-0 0 false f);
     }

@@ -16,7 +16,15 @@ returns-clause-formed g c =
     let at = c.try_within.new.at in
     let old = old_place v ws xs lives c.try_within.auto.blocks c.deref_mut.ensures.value s.block s.at in
     let new = new_place v ws xs lives c.try_within.auto.blocks c.deref_mut.ensures.value s.block at in
-    let placed = new_placed v ws xs lives c.try_within.auto.blocks c.deref_mut.ensures.value s.block at c.try_within.ensures.placed in
-    let formed : IsTried c.args.m.now (scan_by (map block_of xs) lives s.block s.at) (scan_by (map block_of ws) lives s.block at) → IsFormedState _
-    = λ t. record { placed = placed; formed = subst IsFormedScan (sym new) (formed_tried c.args.m.now _ _ c.requires.machine (subst IsFormedScan (sym old) c.requires.formed.formed) t) } in
+    let placed = new_placed v ws xs lives c.try_within.auto.blocks c.deref_mut.ensures.value s.block at
+    c.try_within.ensures.placed in
+    let formed : IsTried c.args.m.now (scan_by (map block_of xs) lives s.block s.at)
+    (scan_by (map block_of ws) lives s.block at) → IsFormedState _
+    =
+    λ t. record {
+      placed = placed;
+      formed = subst IsFormedScan (sym new)
+          (formed_tried c.args.m.now _ _ c.requires.machine (subst IsFormedScan (sym old) c.requires.formed.formed)
+          t);
+    } in
     on_ok_weaker _ formed c.try_within.ensures.tried
