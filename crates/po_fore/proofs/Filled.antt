@@ -13,4 +13,5 @@ use Rattle.po_general.proofs.Filled.{result_has_values}
 pub instance_filled : (m : Machine) (r : PlainRule) (p : PlainPair) → IsMachine m → Canonical m r → WellFormedPair p
     → Instance r p → HasValues (pair_values p) r.result
 instance_filled m r p is canonical formed instance =
-    subst (λ q. HasValues (pair_values p) q.result) (canonical.rule p formed instance) (result_has_values m is p formed)
+    subst (λ q. HasValues (pair_values p) q.result) (canonical.rule p formed instance)
+    (result_has_values m is p formed)

@@ -34,7 +34,8 @@ abbrev pub HasGoneBy : Machine → List PlainRule → Scan → Scan → Type 0
 HasGoneBy m rs s t = (xs : List Try) × GoesBy m rs s xs t × Goes (combination m) s (steps_of xs) t
 
 -- a scan went on by these tries, which were put behind what a report tells; a step was counted for each miss
-pub record Gains (m : Machine) (rs : List PlainRule) (s t : Scan) (r q : BlockReport) (n k : ℕ) (xs : List Try) : Type 0 where
+pub record Gains (m : Machine) (rs : List PlainRule) (s t : Scan) (r q : BlockReport) (n k : ℕ)
+    (xs : List Try) : Type 0 where
   pub goes : GoesBy m rs s xs t
   pub slowly : Goes (combination m) s (steps_of xs) t
   pub used : map hit_of q.used.items ≡ map hit_of r.used.items ++ hits xs

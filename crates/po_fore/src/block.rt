@@ -14,10 +14,10 @@ use po_word::OutOfMemory;
 use std::alloc::Global;
 use std::sync::ledger::Ledger;
 
-/// Goes to the end of the block at which a scan stands, as slow combination does (docs/RULES.md, "A block by rules"): by
-/// a rule for each pair that is an instance of one, and by slow combination for each other one, for which a step is
-/// counted. It fails only where memory is refused; then the scan stands after the first so many tries of the block, none
-/// or all of them among the possibilities. It waits for nobody.
+/// Goes to the end of the block at which a scan stands, as slow combination does (docs/RULES.md, "A block by rules"):
+/// by a rule for each pair that is an instance of one, and by slow combination for each other one, for which a step is
+/// counted. It fails only where memory is refused; then the scan stands after the first so many tries of the block,
+/// none or all of them among the possibilities. It waits for nobody.
 pub fn compile_block<R: Lookup, L: Ledger>(
     alloc: Global,
     m: &Machine,

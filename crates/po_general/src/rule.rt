@@ -39,8 +39,9 @@ fn rule_of_pair(alloc: Global, m: &Machine, p: &Pair) -> Result<Rule, OutOfMemor
     })
 }
 
-/// The rule of a pair of well-formed instructions on a machine, which has the pair as an instance, and is right of each
-/// of its instances and the rule of each (docs/RULES.md, "The rule of a pair"). It fails only where memory is refused.
+/// The rule of a pair of well-formed instructions on a machine, which has the pair as an instance, and is right of
+/// each of its instances and the rule of each (docs/RULES.md, "The rule of a pair"). It fails only where memory is
+/// refused.
 pub fn generalise<L: Ledger>(
     alloc: Global,
     m: Arc<Machine>,

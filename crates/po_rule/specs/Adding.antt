@@ -6,7 +6,8 @@ use Rattle.po_rule.specs.declared.refusal.AddRefusal.{AddRefusal}
 use Rattle.po_rule.specs.declared.refusal.AddRefusal.TheVariants as refusal
 
 -- the rule r for the machine n, which is none of the rules rs for the machine m, stands behind them
-pub record Added (m : Machine) (rs : List PlainRule) (n : Machine) (r : PlainRule) (after : List PlainRule) : Type 0 where
+pub record Added (m : Machine) (rs : List PlainRule) (n : Machine) (r : PlainRule)
+    (after : List PlainRule) : Type 0 where
   pub same : n ≡ m
   pub fresh : All (λ s. s ≢ r) rs
   pub behind : after ≡ rs ++ r ∷ []

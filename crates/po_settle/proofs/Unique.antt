@@ -76,7 +76,8 @@ one_list (x ∷ xs) (y ∷ ys) s t a b =
 within : (wanted texts others : List (List ℕ)) → AreSorted wanted texts → AreSorted wanted others
     → All (Contains others) texts
 within wanted texts others s t =
-    All-weaker (Contains wanted) (Contains others) (λ x c. All-contains (Contains others) wanted x t.all c) texts s.each
+    All-weaker (Contains wanted) (Contains others) (λ x c. All-contains (Contains others) wanted x t.all c) texts
+    s.each
 
 -- the same texts are sorted in one way
 pub one_sorted : (wanted texts others : List (List ℕ)) → AreSorted wanted texts → AreSorted wanted others

@@ -30,4 +30,5 @@ rule_texts m ps = map (λ p. rule_text (generalised m p)) ps
 abbrev pub IsUnruled : List PlainRule → List PlainPair → ℕ → Type 0
 IsUnruled rs [] n = n ≡ 0
 IsUnruled rs (p ∷ ps) n =
-    ((k : ℕ) × NoneFits rs p × IsUnruled rs ps k × (n ≡ k + 1)) ⊎ ((r : PlainRule) × FitsRule rs p r × IsUnruled rs ps n)
+    ((k : ℕ) × NoneFits rs p × IsUnruled rs ps k × (n ≡ k + 1))
+    ⊎ ((r : PlainRule) × FitsRule rs p r × IsUnruled rs ps n)

@@ -77,9 +77,9 @@ fn push_report<R: Lookup, L: Ledger>(
     push_misses(alloc, m, rules, &r.misses, steps, texts)
 }
 
-/// The texts of the rules that were used and of the rules of the misses, sorted by bytes, each once (docs/RULES.md, "The
-/// rules of a run"). The list's rules are canonical for the machine, and the misses well formed. A step is counted for
-/// each miss that has no rule in the list. It fails only where memory is refused.
+/// The texts of the rules that were used and of the rules of the misses, sorted by bytes, each once (docs/RULES.md,
+/// "The rules of a run"). The list's rules are canonical for the machine, and the misses well formed. A step is
+/// counted for each miss that has no rule in the list. It fails only where memory is refused.
 pub fn settle<R: Lookup, L: Ledger>(
     alloc: Global,
     m: &Arc<Machine>,

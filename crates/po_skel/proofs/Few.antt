@@ -18,6 +18,7 @@ use Rattle.po_model.specs.Shape.{meet_register, meet_symbol, meet_tree, meet_mov
 use Rattle.po_model.specs.Shape.{nothing_met, pair_values, constants, move_constants, moves_constants}
 use Rattle.po_skel.specs.Few.{HasFew}
 use Rattle.po_model.specs.Parts.{sym_eq}
+use Rattle.po_skel.proofs.Meeting.{moves_consts}
 
 -- w has at most n registers and n symbols more than v
 record Within (v w : PlainValues) (n : ℕ) : Type 0 where
@@ -95,18 +96,6 @@ moves_within v (m ∷ ms) h =
     (move_within v m (All-head WellFormedMove m ms h))
     (moves_within (meet_move v m) ms (All-tail WellFormedMove m ms h)) (omega arith)
 
-pub pair_few : (p : PlainPair) → WellFormed p.a → WellFormed p.b → HasFew (pair_values p)
-pair_few p f s =
-    let a = moves_within nothing_met p.a f.each in
-    let b = moves_within (meet_moves nothing_met p.a) p.b s.each in
-    let few_a = f.few in
-    let few_b = s.few in
-    let ar = a.registers in
-    let br = b.registers in
-    let a_symbols = a.symbols in
-    let b_symbols = b.symbols in
-    record { registers = omega arith; symbols = omega arith }
-
 constants_few : (t : Tree ℕ Place) → constants t ≤ tree_size t
 constants_few (Const c) = omega arith
 constants_few (Leaf l) = omega arith
@@ -140,3 +129,18 @@ pair_few_constants p f s =
     let few_a = f.few in
     let few_b = s.few in
     omega arith
+
+pub pair_few : (p : PlainPair) → WellFormed p.a → WellFormed p.b → HasFew (pair_values p)
+pair_few p f s =
+    let a = moves_within nothing_met p.a f.each in
+    let b = moves_within (meet_moves nothing_met p.a) p.b s.each in
+    let few_a = f.few in
+    let few_b = s.few in
+    let ar = a.registers in
+    let br = b.registers in
+    let a_symbols = a.symbols in
+    let b_symbols = b.symbols in
+    let a_constants = moves_consts nothing_met p.a in
+    let b_constants = moves_consts (meet_moves nothing_met p.a) p.b in
+    let few_constants = pair_few_constants p f s in
+    record { registers = omega arith; symbols = omega arith; constants = omega arith }

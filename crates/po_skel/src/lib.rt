@@ -1,17 +1,20 @@
 //! Shapes of pairs: what a pair is like whatever its registers, symbols, constants and label are (docs/RULES.md).
 //!
-//! `walk` finds what stands at the holes of a pair, `holes` puts holes in its place, `matching` compares a pair with a
-//! shape, `skeleton` and `matched` have the calls over them, and `fill` puts values into holes. `laws` says what holds of the
-//! definitions: each function there is empty, and its contract is the law.
+//! `walk` finds what stands at the holes of a pair. `numbering` puts holes in its place, and `binding` compares the
+//! pair with a shape, both in one walk. `matching` compares a pair whose values are known, in place. `holes` finds
+//! holes by the values, `skeleton` and `matched` have the calls over all of these, and `fill` puts values into holes.
+//! `laws` says what holds of the definitions: each function there is empty, and its contract is the law.
 //!
 //! Its tests stand in `po_rule_rows`.
 #![tactic(auto)]
 
+mod binding;
 mod fill;
 mod holes;
 mod laws;
 mod matched;
 mod matching;
+mod numbering;
 mod skeleton;
 mod walk;
 

@@ -198,7 +198,7 @@ fn same_bit(a: bool, b: bool) -> bool
 }
 
 /// Whether what is live after the pair is what the shape says.
-fn match_after(v: &Values, s: &Shape, p: &Pair) -> bool
+pub fn match_after(v: &Values, s: &Shape, p: &Pair) -> bool
     requires { HasFew (values_of v.now) }
     ensures { IsTrue result ↔ ((s.now.live.items ≡ live_holes (values_of v.now) (is_live p.now.live) v.now.regs.items
         ++ live_holes (values_of v.now) (is_live p.now.live) settable) × (s.now.cc ≡ p.now.live.cc)) }

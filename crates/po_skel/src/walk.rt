@@ -1,14 +1,15 @@
 //! What stands at the holes of a pair, by the order in which a walk through it meets it.
-ghost use Rattle.std.specs.Prelude.{◌≡◌, OnOk, IfOk};
-ghost use Rattle.std.specs.List.{list_any};
+ghost use Rattle.std.specs.Prelude.{◌≡◌, OnOk, IfOk, Some};
+ghost use Rattle.std.specs.List.{position_or_len, position_from};
 ghost use Rattle.po_word.specs.declared.operator.Rel.{Rel};
+ghost use Rattle.po_term.specs.declared.term.Reg.TheVariants.{Virt};
 ghost use Rattle.po_term.specs.Terms.{tree_of};
 ghost use Rattle.po_term.specs.Moves.{move_of, moves_of, branch_of, instr_of};
 ghost use Rattle.po_term.specs.Simplified.{reg_eq};
 ghost use Rattle.po_model.specs.Holed.{values_of};
 ghost use Rattle.po_model.specs.Pairs.{pair_of};
 ghost use Rattle.po_model.specs.Shape.{meet_register, meet_symbol, meet_tree, meet_ending, meet_move, meet_moves};
-ghost use Rattle.po_model.specs.Shape.{pair_values};
+ghost use Rattle.po_model.specs.Shape.{nothing_met, pair_values};
 ghost use Rattle.po_model.specs.Parts.{sym_eq};
 
 use po_model::{Pair, Values};
@@ -16,39 +17,66 @@ use po_term::{Cond, Label, Reg, Sym, Term, Transfer};
 use po_word::OutOfMemory;
 use std::alloc::Global;
 
-/// Whether both are one register.
-pub fn is_one(r: Reg, q: Reg) -> bool
+fn is_one(r: Reg, q: Reg) -> bool
     ensures { result ≡ reg_eq r q }
 {
     r == q
 }
 
-/// Whether both are one symbol.
-pub fn is_one_symbol(s: Sym, t: Sym) -> bool
+fn is_one_symbol(s: Sym, t: Sym) -> bool
     ensures { result ≡ sym_eq s t }
 {
     s.0 == t.0
 }
 
-fn is_met(regs: &[Reg], r: Reg) -> bool
-    ensures { result ≡ list_any (reg_eq r) regs.now }
+pub fn find(regs: &[Reg], r: Reg) -> Option<usize>
+    ensures { result ≡ position_from (reg_eq r) 0 regs.now }
 {
-    regs.iter().any(|q| is_one(r, *q))
+    regs.iter().position(|q| is_one(r, *q))
 }
 
-fn is_symbol_met(syms: &[Sym], s: Sym) -> bool
-    ensures { result ≡ list_any (sym_eq s) syms.now }
+pub fn find_symbol(syms: &[Sym], s: Sym) -> Option<usize>
+    ensures { result ≡ position_from (sym_eq s) 0 syms.now }
 {
-    syms.iter().any(|t| is_one_symbol(s, *t))
+    syms.iter().position(|t| is_one_symbol(s, *t))
+}
+
+/// The place of the virtual register n among those that were met. It is added behind them where it wasn't met.
+pub fn place_register(v: &mut Values, n: u32) -> Result<usize, OutOfMemory>
+    ensures values { OnOk result (values_of v.new ≡ meet_register (values_of v.old) (Virt n)) }
+    ensures place { IfOk result
+        (λ k. k ≡ position_or_len (reg_eq (Virt n)) (meet_register (values_of v.old) (Virt n)).regs) }
+{
+    match find(&v.regs, Reg::Virt(n)) {
+        Some(k) => Ok(k),
+        None => {
+            let k = v.regs.len();
+            v.regs.push(Reg::Virt(n))?;
+            Ok(k)
+        }
+    }
+}
+
+/// The place of a symbol among those that were met. It is added behind them where it wasn't met.
+pub fn place_symbol(v: &mut Values, s: Sym) -> Result<usize, OutOfMemory>
+    ensures values { OnOk result (values_of v.new ≡ meet_symbol (values_of v.old) s) }
+    ensures place { IfOk result (λ k. k ≡ position_or_len (sym_eq s) (meet_symbol (values_of v.old) s).syms) }
+{
+    match find_symbol(&v.syms, s) {
+        Some(k) => Ok(k),
+        None => {
+            let k = v.syms.len();
+            v.syms.push(s)?;
+            Ok(k)
+        }
+    }
 }
 
 fn meet_register(v: &mut Values, r: Reg) -> Result<(), OutOfMemory>
     ensures { OnOk result (values_of v.new ≡ meet_register (values_of v.old) r) }
 {
-    if let Reg::Virt(_) = r
-        && !is_met(&v.regs, r)
-    {
-        v.regs.push(r)?;
+    if let Reg::Virt(n) = r {
+        place_register(v, n)?;
     }
     Ok(())
 }
@@ -56,10 +84,15 @@ fn meet_register(v: &mut Values, r: Reg) -> Result<(), OutOfMemory>
 fn meet_symbol(v: &mut Values, s: Sym) -> Result<(), OutOfMemory>
     ensures { OnOk result (values_of v.new ≡ meet_symbol (values_of v.old) s) }
 {
-    if !is_symbol_met(&v.syms, s) {
-        v.syms.push(s)?;
-    }
+    place_symbol(v, s)?;
     Ok(())
+}
+
+/// The label that is met last stays.
+pub fn meet_label(v: &mut Values, l: Label)
+    ensures { values_of v.new ≡ record (values_of v.old) { label = Some l } }
+{
+    v.label = Some(l);
 }
 
 fn meet_term(v: &mut Values, t: &Term) -> Result<(), OutOfMemory>
@@ -89,7 +122,7 @@ fn meet_branch(v: &mut Values, cond: &Cond, l: Label) -> Result<(), OutOfMemory>
         meet_term(v, x)?;
         meet_term(v, y)?;
     }
-    v.label = Some(l);
+    meet_label(v, l);
     Ok(())
 }
 
@@ -110,7 +143,7 @@ fn meet_transfer(v: &mut Values, t: &Transfer) -> Result<(), OutOfMemory>
             meet_term(v, y)
         }
         Transfer::Goto(l) => {
-            v.label = Some(*l);
+            meet_label(v, *l);
             Ok(())
         }
         Transfer::If(cond, _, l) => meet_branch(v, cond, *l),
@@ -128,17 +161,24 @@ fn meet_transfers(v: &mut Values, xs: &[Transfer]) -> Result<(), OutOfMemory>
     Ok(())
 }
 
-/// What stands at the holes of the pair's shape (docs/RULES.md, "What stands at the holes"). It fails only where memory
-/// is refused.
-pub fn pair_values(alloc: Global, p: &Pair) -> Result<Values, OutOfMemory>
-    ensures { IfOk result (λ v. values_of v ≡ pair_values (pair_of p.now)) }
+/// The start of a walk.
+pub fn nothing_met(alloc: Global) -> Values
+    ensures { values_of result ≡ nothing_met }
 {
-    let mut v = Values {
+    Values {
         regs: Vec::new(alloc),
         syms: Vec::new(alloc),
         label: None,
         consts: Vec::new(alloc),
-    };
+    }
+}
+
+/// What stands at the holes of the pair's shape (docs/RULES.md, "What stands at the holes"). It fails only where
+/// memory is refused.
+pub fn pair_values(alloc: Global, p: &Pair) -> Result<Values, OutOfMemory>
+    ensures { IfOk result (λ v. values_of v ≡ pair_values (pair_of p.now)) }
+{
+    let mut v = nothing_met(alloc);
     meet_transfers(&mut v, &p.a.xs)?;
     meet_transfers(&mut v, &p.b.xs)?;
     Ok(v)

@@ -1,5 +1,6 @@
 -- Whether each question has its answer, one after another.
-use Rattle.std.proofs.Common.{◌≡◌, ℕ, ◌-◌, ◌≤◌, Bool, true, false, List, [], ◌∷◌, length, take, drop, get_or, All, ◌↔◌, sym, ◌∙◌, ap, subst, arith}
+use Rattle.std.proofs.Common.{◌≡◌, ℕ, ◌-◌, ◌≤◌, Bool, true, false, List, [], ◌∷◌, length, take, drop, get_or, All, ◌↔◌}
+use Rattle.std.proofs.Common.{sym, ◌∙◌, ap, subst, arith}
 use Rattle.std.specs.Prelude.{IsTrue}
 use Rattle.std.proofs.lemmas.List.{take_rest}
 use Rattle.std.proofs.lemmas.List.Elements.{All-cons, All-head, All-tail}
@@ -38,7 +39,8 @@ first_not_answered ws (y ∷ ys) x b h e g f = (
 )
 
 -- a pair of the rule's shape
-pub instance_by : (r : PlainRule) (p : PlainPair) (v : PlainValues) (ws : List ℕ) (qs : List (Question × Bool)) (b : Bool)
+pub instance_by : (r : PlainRule) (p : PlainPair) (v : PlainValues) (ws : List ℕ) (qs : List (Question × Bool))
+    (b : Bool)
     → pair_shape p ≡ r.shape → v ≡ pair_values p → ws ≡ v.consts → asked_of qs ≡ r.asked
     → (IsTrue b ↔ All (Gives ws) (asked_of qs)) → (IsTrue b ↔ Instance r p)
 instance_by r p v ws qs b shape values consts asked k =

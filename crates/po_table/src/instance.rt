@@ -36,8 +36,8 @@ fn are_answered(holes: &[u32], asked: &[(Question, bool)]) -> bool
     }
 }
 
-/// Whether a pair of well-formed instructions is an instance of the rule (docs/RULES.md, "Questions"), where `v` is what
-/// stands at the holes of the pair's shape. It takes no memory.
+/// Whether a pair of well-formed instructions is an instance of the rule (docs/RULES.md, "Questions"), where `v` is
+/// what stands at the holes of the pair's shape. It takes no memory.
 pub fn is_instance(v: &Values, r: &Rule, p: &Pair) -> bool
     requires first { WellFormed (instr_of p.now.a) }
     requires second { WellFormed (instr_of p.now.b) }

@@ -1,7 +1,7 @@
 //! A table of rules: a list, in which each rule stands once (docs/RULES.md, "Tables").
 //!
-//! `instance` asks whether a pair is an instance of a rule, and what the rule says of it; `search` looks through a list
-//! of shared rules; `table` has the list beside the machine whose rules these are.
+//! `instance` asks whether a pair is an instance of a rule, and what the rule says of it; `search` looks through a
+//! list of shared rules; `table` has the list beside the machine whose rules these are.
 #![tactic(auto)]
 
 mod instance;

@@ -75,8 +75,8 @@ fn is_new(rules: &[Arc<Rule>], rule: &Rule) -> Result<(), AddRefusal>
 }
 
 /// Whether a learned rule may stand behind these rules of a machine, and else why not (docs/RULES.md, "Tables"):
-/// OtherMachine exactly where it is for another machine, Known exactly where the machines agree and it is one of these,
-/// with its place. It takes no memory.
+/// OtherMachine exactly where it is for another machine, Known exactly where the machines agree and it is one of
+/// these, with its place. It takes no memory.
 pub fn may_add(machine: &Machine, rules: &[Arc<Rule>], l: &Learned) -> Result<(), AddRefusal>
     ensures same { OnOk result (l.now.0 ≡ machine.now) }
     ensures fresh { OnOk result (All (λ s. s ≢ rule_of l.now.1) (shared rules.now)) }

@@ -17,8 +17,8 @@ use std::alloc::Global;
 use std::marker::Model;
 use std::sync::Arc;
 
-/// Learned rules of a machine, each once, in the order in which they were added (docs/RULES.md, "Tables"). Contracts see
-/// the machine and the list of rules.
+/// Learned rules of a machine, each once, in the order in which they were added (docs/RULES.md, "Tables"). Contracts
+/// see the machine and the list of rules.
 #[derive(Drop)]
 pub struct RuleTable {
     machine: Arc<Machine>,
@@ -73,8 +73,8 @@ impl RuleTable {
         self.rules.len()
     }
 
-    /// The rule of the table that has this pair of well-formed instructions as an instance, and None exactly where none
-    /// has (docs/RULES.md, "Tables"). It fails only where memory is refused.
+    /// The rule of the table that has this pair of well-formed instructions as an instance, and None exactly where
+    /// none has (docs/RULES.md, "Tables"). It fails only where memory is refused.
     pub fn find(&self, alloc: Global, p: &Pair) -> Result<Option<&Arc<Rule>>, OutOfMemory>
         requires first { WellFormed (instr_of p.now.a) }
         requires second { WellFormed (instr_of p.now.b) }

@@ -87,3 +87,6 @@ pub binary_finds : (o q : Bin) (same a : Bool) (second : Result Bool OutOfMemory
 binary_finds o q same a (Ok b) p v t u fs gs hs s e h i f =
     binary_walked o q same a b p v t u (founds_of fs) (founds_of gs) (founds_of hs) s e h i f
 binary_finds o q same a (Err r) p v t u fs gs hs s e h i f = i
+
+-- what a walk through two parts comes to
+pub ruleset walked_on = (then_finds, stopped, nothing_found)

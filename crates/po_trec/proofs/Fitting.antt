@@ -99,3 +99,6 @@ fit_as_one n (Some f) ms h = refl
 pub fit_kept : (o : Option (ℕ × Founds)) (ms : List HoleMove) → None ≡ number_of o → Kept ≡ if_fit ms o
 fit_kept None ms h = refl
 fit_kept (Some f) ms h = absurd (cc)
+
+-- what becomes of a pair, by whether an entry fits it
+pub ruleset one_or_kept = (fit_as_one, fit_kept, extended_nothing)

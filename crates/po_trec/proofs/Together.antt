@@ -63,6 +63,7 @@ module _ (ws : List ℕ) (s : PlainShape) where
       let k : P both.got = subst P e g in (
         k.0,
         k.1 ∙ ap (λ kept. extended ws kept (recognised (exprs ws) hole_leaves m s.cc both.got).asked) f
-            ∙ sym (extended_append ws both.asked (recognised (exprs ws) hole_leaves m s.cc both.got).asked (path_of p)),
+            ∙ sym
+            (extended_append ws both.asked (recognised (exprs ws) hole_leaves m s.cc both.got).asked (path_of p)),
       )
   combined_by m j (Err x) p q r e f g = g

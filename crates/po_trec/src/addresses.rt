@@ -44,7 +44,8 @@ pub fn is_equal(
     path: &mut Path,
 ) -> Result<bool, OutOfMemory>
     ensures said { IfOk result (λ b. b ≡ (exprs holes.now).says (Equals (expr_of c.now) (expr_of d.now))) }
-    ensures noted { OnOk result (path_of path.new ≡ note holes.now (path_of path.old) (Equals (expr_of c.now) (expr_of d.now))) }
+    ensures noted { OnOk result
+        (path_of path.new ≡ note holes.now (path_of path.old) (Equals (expr_of c.now) (expr_of d.now))) }
 {
     let first = copy_cexpr(alloc, c)?;
     let second = copy_cexpr(alloc, d)?;

@@ -109,7 +109,8 @@ fn stores_nothing(b: &[PTransfer]) -> bool
 /// Whether a transfer of the first instruction stays beside b, which has what is wanted of the second: where it sets
 /// something that is live and that b doesn't set, and where it stores and b doesn't.
 fn is_kept(t: &PTransfer, b: &[PTransfer], s: &Shape) -> bool
-    ensures { result ≡ is_kept hole_leaves (is_live_in (shape_of s.now)) s.now.cc (hole_moves_of b.now) (hole_move_of t.now) }
+    ensures { result
+        ≡ is_kept hole_leaves (is_live_in (shape_of s.now)) s.now.cc (hole_moves_of b.now) (hole_move_of t.now) }
 {
     match t {
         PTransfer::Set(r, _) => lives_unset(s, *r, b),

@@ -57,7 +57,8 @@ fn copy_transfer(alloc: Global, t: &PTransfer) -> Result<PTransfer, OutOfMemory>
 }
 
 fn add_copy(alloc: Global, copies: &mut Vec<PTransfer>, t: &PTransfer) -> Result<(), OutOfMemory>
-    ensures { OnOk result (hole_moves_of copies.new.items ≡ hole_moves_of copies.old.items ++ hole_move_of t.now ∷ []) }
+    ensures { OnOk result
+        (hole_moves_of copies.new.items ≡ hole_moves_of copies.old.items ++ hole_move_of t.now ∷ []) }
 {
     let copy = copy_transfer(alloc, t)?;
     push(copies, copy)

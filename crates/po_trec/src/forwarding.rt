@@ -59,7 +59,7 @@ fn forward_read(
 
 /// What the term t, read after the transfers a, is before them. None where some read of t may or may not meet a's
 /// store.
-#[tactic(auto, using(po_tsimp::proofs::Paths::extended_append, po_tsimp::proofs::Paths::extended_nothing, crate::proofs::Symbols::symbol_stays))]
+#[tactic(auto, using(crate::proofs::Symbols::leaf_forwarded))]
 pub fn forwarded(
     alloc: Global,
     a: &[PTransfer],

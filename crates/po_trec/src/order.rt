@@ -35,7 +35,8 @@ fn none_yet(alloc: Global) -> ByKind
 
 /// Adds a transfer behind those of its kind.
 fn add(by_kind: &mut ByKind, t: PTransfer) -> Result<(), OutOfMemory>
-    ensures { OnOk result ((ms : List HoleMove) → with_rest by_kind.new ms ≡ with_rest by_kind.old (hole_move_of t ∷ ms)) }
+    ensures { OnOk result
+        ((ms : List HoleMove) → with_rest by_kind.new ms ≡ with_rest by_kind.old (hole_move_of t ∷ ms)) }
 {
     match t {
         PTransfer::Set(r, u) => push(&mut by_kind.sets, PTransfer::Set(r, u)),

@@ -128,7 +128,7 @@ pub fn recognise_p(
 
 /// What becomes of a pair that was joined as these transfers: they stand in its place where an entry fits them, and
 /// it stays where none does.
-#[tactic(auto, using(crate::proofs::Fitting::fit_as_one, crate::proofs::Fitting::fit_kept, po_tsimp::proofs::Paths::extended_nothing))]
+#[tactic(auto, using(crate::proofs::Fitting::one_or_kept))]
 pub fn as_one(
     alloc: Global,
     m: &Machine,

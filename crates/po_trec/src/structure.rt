@@ -50,7 +50,8 @@ fn find_term(
     t: &PTerm,
     found: &mut Vec<Spot>,
 ) -> Result<bool, OutOfMemory>
-    ensures { Finds result found.old.items found.new.items (tree_found hole_leaves (pattern_of p.now) (hole_tree_of t.now)) }
+    ensures { Finds result found.old.items found.new.items
+        (tree_found hole_leaves (pattern_of p.now) (hole_tree_of t.now)) }
 {
     match (p, t) {
         (PatTerm::Reg(p), PTerm::Reg(r)) => find_register(*p, *r, found),
@@ -136,14 +137,15 @@ fn find_branch(
     }
 }
 
-#[tactic(auto, using(crate::proofs::Behind::then_finds, crate::proofs::Behind::stopped, crate::proofs::Behind::nothing_found))]
+#[tactic(auto, using(crate::proofs::Behind::walked_on))]
 fn find_move(
     alloc: Global,
     p: &PatTransfer,
     x: &PTransfer,
     found: &mut Vec<Spot>,
 ) -> Result<bool, OutOfMemory>
-    ensures { Finds result found.old.items found.new.items (move_found hole_leaves (pat_move_of p.now) (hole_move_of x.now)) }
+    ensures { Finds result found.old.items found.new.items
+        (move_found hole_leaves (pat_move_of p.now) (hole_move_of x.now)) }
 {
     match (p, x) {
         (PatTransfer::Set(p, q), PTransfer::Set(r, t)) => {
@@ -171,7 +173,7 @@ fn find_move(
 
 /// Whether a list of transfers has the structure of a pattern, and what stands at the pattern's places, behind what
 /// was found before.
-#[tactic(auto, using(crate::proofs::Behind::then_finds, crate::proofs::Behind::stopped, crate::proofs::Behind::nothing_found))]
+#[tactic(auto, using(crate::proofs::Behind::walked_on))]
 pub fn find_moves(
     alloc: Global,
     ps: &[PatTransfer],

@@ -70,7 +70,8 @@ fn simple_term(
     holes: &[u32],
     path: &mut Path,
 ) -> Result<PTerm, OutOfMemory>
-    ensures { Makes holes.now result path.old path.new (simple (exprs holes.now) same_hole_register (hole_tree_of t.now)) }
+    ensures { Makes holes.now result path.old path.new
+        (simple (exprs holes.now) same_hole_register (hole_tree_of t.now)) }
 {
     let t = copy_pterm(alloc, t)?;
     simplified(alloc, t, holes, path)

@@ -21,7 +21,8 @@ pub fn unary_made(
     holes: &[u32],
     path: &mut Path,
 ) -> Result<PTerm, OutOfMemory>
-    ensures { Makes holes.now result path.old path.new (unary_of (exprs holes.now) same_hole_register op (hole_tree_of a)) }
+    ensures { Makes holes.now result path.old path.new
+        (unary_of (exprs holes.now) same_hole_register op (hole_tree_of a)) }
 {
     match op {
         Un::Neg => negate(alloc, a, holes, path),

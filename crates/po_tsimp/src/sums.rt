@@ -17,7 +17,8 @@ use std::alloc::Global;
 
 /// The constructor of `neg(a)`.
 pub fn negate(alloc: Global, a: PTerm, holes: &[u32], path: &mut Path) -> Result<PTerm, OutOfMemory>
-    ensures { Makes holes.now result path.old path.new (make_neg (exprs holes.now) same_hole_register (hole_tree_of a)) }
+    ensures { Makes holes.now result path.old path.new
+        (make_neg (exprs holes.now) same_hole_register (hole_tree_of a)) }
 {
     match a {
         PTerm::Const(c) => Ok(PTerm::Const(folded_un(alloc, Un::Neg, c)?)),
@@ -33,7 +34,8 @@ pub fn complement(
     holes: &[u32],
     path: &mut Path,
 ) -> Result<PTerm, OutOfMemory>
-    ensures { Makes holes.now result path.old path.new (make_not (exprs holes.now) same_hole_register (hole_tree_of a)) }
+    ensures { Makes holes.now result path.old path.new
+        (make_not (exprs holes.now) same_hole_register (hole_tree_of a)) }
 {
     match a {
         PTerm::Const(c) => Ok(PTerm::Const(folded_un(alloc, Un::Not, c)?)),

@@ -23,7 +23,8 @@ tries-preserved g c =
       gains = (
         c.tries.invariant.gains.0 ++ o.0 ∷ [],
         gains_append c.args.m.now rs (scan_of c.args.s.now)
-            (scan_of c.tries.s) (scan_of c.step.new.s) _ c.tries.report c.step.new.report c.args.steps.now c.tries.steps
+            (scan_of c.tries.s) (scan_of c.step.new.s) _ c.tries.report c.step.new.report c.args.steps.now
+            c.tries.steps
             c.step.new.steps c.tries.invariant.gains.0 (o.0 ∷ []) c.tries.invariant.gains.1 o.1,
       );
     }

@@ -23,7 +23,8 @@ returns-in-Some-clause-tried g c =
     on_ok_and3 c.try_by_rule.result (λ by slowly used. (
       Used p r,
       gains_used c.args.m.now rs (scan_of c.args.s.now)
-          (scan_of c.try_by_rule.new.s) c.args.report.now _ c.args.steps.now p r c.requires.ready c.requires.pair f by slowly
+          (scan_of c.try_by_rule.new.s) c.args.report.now _ c.args.steps.now p r c.requires.ready c.requires.pair f by
+          slowly
           used refl,
     )) c.try_by_rule.ensures.goes_on c.try_by_rule.ensures.slowly c.try_by_rule.ensures.used
 

@@ -7,6 +7,8 @@ use Rattle.po_settle.proofs.reports.push_misses.Given as goal
 
 abbrev pub invariant-loop-p : goal.invariant-loop-p
 invariant-loop-p g l = record {
-  texts : texts_of l.texts.items ≡ texts_of l.initial.texts.items ++ map (miss_text (arc_value l.m)) (take l.p-index l.misses);
-  ticks : (n : ℕ) × IsUnruled (g.R.Lookup.rules l.rules) (map pair_of (take l.p-index l.misses)) n × (l.steps ≡ l.initial.steps + n);
+  texts : texts_of l.texts.items
+      ≡ texts_of l.initial.texts.items ++ map (miss_text (arc_value l.m)) (take l.p-index l.misses);
+  ticks : (n : ℕ) × IsUnruled (g.R.Lookup.rules l.rules) (map pair_of (take l.p-index l.misses)) n
+      × (l.steps ≡ l.initial.steps + n);
 }

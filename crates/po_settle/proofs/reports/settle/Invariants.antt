@@ -7,6 +7,7 @@ use Rattle.po_settle.proofs.reports.settle.Given as goal
 
 abbrev pub invariant-loop-r : goal.invariant-loop-r
 invariant-loop-r g l = record {
-  texts : texts_of l.texts.items ++ all_texts (arc_value l.m) (drop l.r-index l.r-items) ≡ all_texts (arc_value l.m) l.r-items;
+  texts : texts_of l.texts.items ++ all_texts (arc_value l.m) (drop l.r-index l.r-items)
+      ≡ all_texts (arc_value l.m) l.r-items;
   ticks : (n : ℕ) × Rest (g.R.Lookup.rules l.rules) l.r-items l.r-index n × (l.steps ≡ l.initial.steps + n);
 }
