@@ -1,0 +1,4 @@
+-- Copies, what was posted, and block after block
+pub mod Keys
+pub mod Posting
+pub mod Working

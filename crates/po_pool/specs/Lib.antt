@@ -1,0 +1,2 @@
+-- What workers and learners give back
+pub mod Worked

@@ -1,0 +1,4 @@
+use Rattle.po_team.proofs.workers.compile.Given as goal
+
+abbrev pub ghosts-counted : goal.ghosts-counted
+ghosts-counted g a = record { name = a.ledger.name; parts = a.ledger.parts }
