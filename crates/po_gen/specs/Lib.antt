@@ -1,0 +1,3 @@
+pub mod Learnt
+pub mod Passed
+pub mod Summary
