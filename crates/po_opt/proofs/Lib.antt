@@ -1,0 +1,17 @@
+-- Sums, and how many sorted texts a list may have
+pub mod Sums
+pub mod Distinct
+-- What the works of all units tell
+pub mod Telling
+-- Reports whose hits are looked up once more
+pub mod Relooking
+-- The rules that are written
+pub mod Writing
+-- How much was learned
+pub mod Ending
+-- The counts of a run
+pub mod Counting
+-- What a run makes of its works
+pub mod Making
+-- A table of rules may cross threads
+pub mod Crossing

@@ -1,0 +1,4 @@
+use Rattle.po_opt.proofs.rules.write_rules.Given as goal
+
+abbrev pub ghosts-counted : goal.ghosts-counted
+ghosts-counted g a = record { name = a.ledger.name; parts = a.ledger.parts }
