@@ -1,15 +1,20 @@
 //! The program `po`: standard input, standard output and standard error, given to the top call.
 #![tactic(auto)]
 
-use po_run::{Status, po_serial};
+use po_pool::Open;
+use po_run::{Status, po_run};
 use po_text::{StdSink, StdSource};
 use std::env;
+use std::io::ErrorKind;
 use std::process::ExitCode;
 
-/// The words that the program was started with, without its name. None where memory was refused.
+/// The words that the program was started with, without its name. None where memory was refused. Where one isn't UTF-8
+/// there are none, and no words are a wrong use, as that one is.
 fn words(rt: &HostRuntime) -> Option<Vec<String>> {
-    let Ok(args) = env::args(rt) else {
-        return None;
+    let args = match env::args(rt) {
+        Ok(args) => args,
+        Err(fault) if fault.kind() == ErrorKind::OutOfMemory => return None,
+        Err(_) => return Some(Vec::new(rt.alloc())),
     };
     let Ok(words) = args.skip(1).collect(rt.alloc()) else {
         return None;
@@ -39,6 +44,15 @@ fn main(rt: HostRuntime) -> ExitCode {
     let mut source = StdSource::new(rt.stdin());
     let mut sink = StdSink::new(rt.stdout());
     let mut notes = StdSink::new(rt.stderr());
-    let status = po_serial(rt.alloc(), &words, &mut source, &mut sink, &mut notes);
+    let alloc = rt.alloc();
+    let status = po_run(
+        &rt,
+        alloc,
+        &words,
+        &mut source,
+        &mut sink,
+        &mut notes,
+        &Open,
+    );
     ExitCode::from(exit_status(status))
 }

@@ -1,9 +1,4 @@
-pub mod Input
-pub mod Modes
-pub mod Rules
-pub mod Opting
-pub mod Runs
-pub mod Output
-pub mod Statuses
+pub mod Asked
+pub mod Sampled
+pub mod Stats
 pub mod Notes
-pub mod Steps

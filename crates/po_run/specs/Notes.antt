@@ -2,9 +2,10 @@
 use Rattle.std.specs.Prelude.{ℕ, List, [], ◌++◌, codes, decimal}
 use Rattle.po_text.specs.declared.fault.Kind.{Kind}
 use Rattle.po_text.specs.declared.fault.Kind.TheVariants as kind
-use Rattle.po_run.specs.declared.status.Status.{Status}
-use Rattle.po_run.specs.declared.status.Status.TheVariants as status
+use Rattle.po_compile.specs.declared.status.Status.{Status}
+use Rattle.po_compile.specs.declared.status.Status.TheVariants as status
 
+-- ORDER: fault kinds
 abbrev pub kind_name : Kind → List ℕ
 kind_name kind.Word = codes "Word"
 kind_name kind.Number = codes "Number"
@@ -20,9 +21,11 @@ kind_name kind.FallsOff = codes "FallsOff"
 kind_name kind.TooMany = codes "TooMany"
 
 abbrev pub usage : List ℕ
-usage = codes "po: usage: po naive, po slow, po opt [--workers N] [--learners N] [--stats], po gen --seed N --units N\n"
+usage =
+    codes "po: usage: po naive, po slow, po opt [--workers N] [--learners N] [--stats], po gen --seed N --units N\n"
 
 -- nothing where the program is done, else one line
+-- ORDER: statuses
 abbrev pub note_line : Status → List ℕ
 note_line status.Done = []
 note_line status.Usage = usage

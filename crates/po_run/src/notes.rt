@@ -3,12 +3,15 @@ ghost use Rattle.std.specs.Prelude.{◌≡◌, ◌++◌, ◌<◌, ◌-◌, ◌^�
 ghost use Rattle.po_text.specs.Causes.{after_known};
 ghost use Rattle.po_text.specs.Sink.{WriteCause};
 ghost use Rattle.po_run.specs.Notes.{kind_name, note_line};
+ghost use Rattle.po_run.specs.Stats.{stats_line, stats_text};
 
-use crate::Status;
 use itoa::Buffer;
+use po_compile::Status;
+use po_opt::Counts;
 use po_text::{Kind, Sink, WriteFault, write_all};
 
 /// The name of a kind of fault.
+// ORDER: fault kinds
 fn name_of(kind: Kind) -> &'static [u8]
     ensures { result.now ≡ kind_name kind }
 {
@@ -120,6 +123,7 @@ fn push_written<N: Sink>(notes: &mut N, written: u64) -> Result<(), WriteFault>
 }
 
 /// Writes the line of a status.
+// ORDER: statuses
 fn push_note<N: Sink>(notes: &mut N, status: Status) -> Result<(), WriteFault>
     ensures all { OnOk result (N.kept notes.new ≡ after_known (N.kept notes.old) (note_line status)) }
     ensures cause { WriteCause (N.faults notes.old) (N.faults notes.new) result }
@@ -128,7 +132,8 @@ fn push_note<N: Sink>(notes: &mut N, status: Status) -> Result<(), WriteFault>
         Status::Done => write_all(notes, b""),
         Status::Usage => write_all(
             notes,
-            b"po: usage: po naive, po slow, po opt [--workers N] [--learners N] [--stats], po gen --seed N --units N\n",
+            b"po: usage: po naive, po slow, po opt [--workers N] [--learners N] [--stats], \
+                po gen --seed N --units N\n",
         ),
         Status::ReadFault => write_all(notes, b"po: read failed\n"),
         Status::BadText { line, col, kind } => push_fault(notes, line, col, kind),
@@ -143,12 +148,56 @@ fn push_note<N: Sink>(notes: &mut N, status: Status) -> Result<(), WriteFault>
     }
 }
 
-/// Tells a status. A fault of the notes changes nothing; where they don't fail, they grow by exactly the line.
-pub fn tell<N: Sink>(notes: &mut N, status: Status)
-    ensures { N.faults notes.new ≡ N.faults notes.old → N.faults notes.old < 2 ^ 64 - 1
-        → N.kept notes.new ≡ after_known (N.kept notes.old) (note_line status) }
+/// Writes the line of a run's counts.
+fn push_stats<N: Sink>(notes: &mut N, counts: Counts) -> Result<(), WriteFault>
+    ensures all { OnOk result (N.kept notes.new ≡ after_known (N.kept notes.old) (stats_line counts)) }
+    ensures cause { WriteCause (N.faults notes.old) (N.faults notes.new) result }
 {
-    match push_note(notes, status) {
+    push_number(notes, b"pairs ", counts.pairs)?;
+    push_number(notes, b" hits ", counts.hits)?;
+    push_number(notes, b" misses ", counts.misses)?;
+    push_number(notes, b" posted ", counts.posted)?;
+    push_number(notes, b" full ", counts.full)?;
+    push_number(notes, b" learned ", counts.learned)?;
+    push_number(notes, b" rules ", counts.rules)?;
+    write_all(notes, b"\n")?;
+    Ok(())
+}
+
+/// Writes the line of a run's counts, where there are some.
+fn push_counts<N: Sink>(notes: &mut N, counts: Option<Counts>) -> Result<(), WriteFault>
+    ensures all { OnOk result (N.kept notes.new ≡ after_known (N.kept notes.old) (stats_text counts)) }
+    ensures cause { WriteCause (N.faults notes.old) (N.faults notes.new) result }
+{
+    match counts {
+        Some(counts) => push_stats(notes, counts),
+        None => write_all(notes, b""),
+    }
+}
+
+#[tactic(auto, using(po_text::proofs::Known::after_two))]
+/// Writes the line of a status, and the line of counts where there are some.
+fn push_all<N: Sink>(
+    notes: &mut N,
+    status: Status,
+    counts: Option<Counts>,
+) -> Result<(), WriteFault>
+    ensures all { OnOk result (N.kept notes.new
+        ≡ after_known (N.kept notes.old) (note_line status ++ stats_text counts)) }
+    ensures cause { WriteCause (N.faults notes.old) (N.faults notes.new) result }
+{
+    push_note(notes, status)?;
+    push_counts(notes, counts)?;
+    Ok(())
+}
+
+/// Tells a status, and the counts of a run where there are some. A fault of the notes changes nothing; where they
+/// don't fail, they grow by exactly these lines.
+pub fn tell<N: Sink>(notes: &mut N, status: Status, counts: Option<Counts>)
+    ensures { N.faults notes.new ≡ N.faults notes.old → N.faults notes.old < 2 ^ 64 - 1
+        → N.kept notes.new ≡ after_known (N.kept notes.old) (note_line status ++ stats_text counts) }
+{
+    match push_all(notes, status, counts) {
         Ok(()) => (),
         Err(_) => (),
     }

@@ -1,9 +1,10 @@
-use Rattle.po_run.proofs.Complete.{complete}
+use Rattle.std.proofs.Common.{◌∙◌, ap}
+use Rattle.std.proofs.lemmas.List.{append-nil}
+use Rattle.po_text.specs.Causes.{after_known}
+use Rattle.po_run.specs.Notes.{note_line}
 use Rattle.po_run.proofs.serial.po_serial.Goals as goal
 
--- the other clauses leave no other end
-pub returns-clause-complete : goal.returns-clause-complete
-returns-clause-complete c = λ d.
-    complete d.args.words.now d.run-status.result _ _ _ _ _ _ _ _ d.run-status.ensures.usage
-    d.run-status.ensures.read_fault d.run-status.ensures.bad_text d.run-status.ensures.unrecognised
-    d.run-status.ensures.too_few d.run-status.ensures.write_fault
+-- no counts are told
+pub returns-clause-notes : goal.returns-clause-notes
+returns-clause-notes g c = λ same few. c.tell.ensures same few
+    ∙ ap (after_known (g.N.Sink.kept c.args.notes.now)) (append-nil (note_line c.answer-status.result))

@@ -1,0 +1,155 @@
+-- All units go through all passes, one after another; and what is so of the codes that a mode makes.
+use Rattle.std.proofs.Common.{◌≡◌, ℕ, zero, suc, List, [], ◌∷◌, ◌++◌, length, map, All, refl, ap, sym, ◌∙◌, subst}
+use Rattle.std.proofs.Common.{arith, append_assoc, append-nil, inr}
+use Rattle.std.proofs.lemmas.List.{length-map}
+use Rattle.std.specs.List.{AllZip}
+use Rattle.po_model.specs.declared.code.UnitCode.{UnitCode}
+use Rattle.po_model.specs.declared.machine.Machine.{Machine}
+use Rattle.po_model.specs.Blocks.{PlainBlock}
+use Rattle.po_model.specs.Combined.{combination}
+use Rattle.po_model.specs.Machines.{IsMachine}
+use Rattle.po_model.specs.Scanned.{AreSafe}
+use Rattle.po_model.specs.UnitCodes.{PlainUnit, unit_of, IsUnitCode, IsFormedCode}
+use Rattle.po_slow.specs.Passes.{IsSlowedUnit, KeepsForm}
+use Rattle.po_slow.proofs.KeptForm.{form_kept}
+use Rattle.po_slow.proofs.LivenessPasses.{keep_fit}
+use Rattle.po_compile.specs.declared.mode.Mode.{Mode}
+use Rattle.po_compile.specs.declared.mode.Mode.TheVariants.{Naive, Slow, Opt}
+use Rattle.po_compile.specs.Modes.{IsCodeIn}
+use Rattle.po_compile.specs.Output.{AllFit}
+use Rattle.po_compile.specs.Steps.{units_of}
+use Rattle.po_compile.proofs.Each.{all_cons}
+use Rattle.po_compile.proofs.Written.{units_append}
+
+-- the units so far went through all passes, and these are left
+pub record IsSlowing (mode : Mode) (m : Machine) (codes rest made : List UnitCode) : Type 0 where
+  pub formed : All IsUnitCode (units_of rest)
+  pub slowed : (vs : List PlainUnit) → AllZip (IsCodeIn mode m) (units_of rest) vs
+      → AllZip (IsCodeIn mode m) (units_of codes) (units_of made ++ vs)
+
+pub slowing_begin : (mode : Mode) (m : Machine) (codes rest made : List UnitCode) → rest ≡ codes → made ≡ []
+    → All IsUnitCode (units_of codes) → IsSlowing mode m codes rest made
+slowing_begin mode m codes rest made e n formed = rw (e, n) (record { formed = formed; slowed = λ vs z. z })
+
+pub first_code : (mode : Mode) (m : Machine) (codes rest more made : List UnitCode) (x : UnitCode)
+    → IsSlowing mode m codes rest made
+    → rest ≡ x ∷ more → IsFormedCode (unit_of x).code
+first_code mode m codes rest more made x h e =
+    let first : IsUnitCode (unit_of x) = (subst (λ (r : List UnitCode). All IsUnitCode (units_of r)) e h.formed) zero
+    (unit_of x) (omega arith) in
+    first.placeable.form
+
+pub slowing_next : (mode : Mode) (m : Machine) (codes rest more made more_made : List UnitCode) (x y : UnitCode)
+    → IsSlowing mode m codes rest made → rest ≡ x ∷ more → more_made ≡ made ++ y ∷ []
+    → IsCodeIn mode m (unit_of x) (unit_of y) → IsSlowing mode m codes more more_made
+slowing_next mode m codes rest more made more_made x y h e f made_so =
+    let here : IsSlowing mode m codes (x ∷ more) made =
+    subst (λ (r : List UnitCode). IsSlowing mode m codes r made) e h in
+    rw f (record {
+      formed = λ k d b. here.formed (suc k) d (omega arith);
+      slowed = λ vs z. rw (units_append made y, append_assoc) (here.slowed (unit_of y ∷ vs) (made_so, z));
+    })
+
+pub slowing_end : (mode : Mode) (m : Machine) (codes rest made : List UnitCode) → IsSlowing mode m codes rest made
+    → rest ≡ []
+    → AllZip (IsCodeIn mode m) (units_of codes) (units_of made)
+slowing_end mode m codes rest made h e =
+    let here : IsSlowing mode m codes [] made = subst (λ (r : List UnitCode). IsSlowing mode m codes r made) e h in
+    subst (λ (vs : List PlainUnit). AllZip (IsCodeIn mode m) (units_of codes) vs) (append-nil (units_of made))
+    (here.slowed [] tt)
+
+-- What is so of each code that a mode makes
+
+zip_all : {A : Type 0} (R : A → A → Type 0) (P Q : A → Type 0) (us vs : List A) → ((u v : A) → R u v → P u → Q v)
+    → AllZip R us vs → All P us → All Q vs
+zip_all R P Q [] [] f z ps = λ k d h. absurd (omega arith)
+zip_all R P Q [] (v ∷ vs) f z ps = absurd z
+zip_all R P Q (u ∷ us) [] f z ps = absurd z
+zip_all R P Q (u ∷ us) (v ∷ vs) f z ps = all_cons Q v vs (f u v z.0 (ps zero u (omega arith)))
+    (zip_all R P Q us vs f z.1 (λ k d h. ps (suc k) d (omega arith)))
+
+zip_zip : {A : Type 0} (R S : A → A → Type 0) (P : A → Type 0) (us vs : List A) → ((u v : A) → R u v → P u → S u v)
+    → AllZip R us vs → All P us → AllZip S us vs
+zip_zip R S P [] [] f z ps = tt
+zip_zip R S P [] (v ∷ vs) f z ps = absurd z
+zip_zip R S P (u ∷ us) [] f z ps = absurd z
+zip_zip R S P (u ∷ us) (v ∷ vs) f z ps =
+    (f u v z.0 (ps zero u (omega arith)), zip_zip R S P us vs f z.1 (λ k d h. ps (suc k) d (omega arith)))
+
+zip_length : {A : Type 0} (R : A → A → Type 0) (us vs : List A) → AllZip R us vs → length vs ≡ length us
+zip_length R [] [] z = refl
+zip_length R [] (v ∷ vs) z = absurd z
+zip_length R (u ∷ us) [] z = absurd z
+zip_length R (u ∷ us) (v ∷ vs) z = ap suc (zip_length R us vs z.1)
+
+zip_refl : {A : Type 0} (R : A → A → Type 0) (us : List A) → ((u : A) → R u u) → AllZip R us us
+zip_refl R [] f = tt
+zip_refl R (u ∷ us) f = (f u, zip_refl R us f)
+
+pub made_count : (mode : Mode) (m : Machine) (codes made : List UnitCode)
+    → AllZip (IsCodeIn mode m) (units_of codes) (units_of made) → length made ≡ length codes
+made_count mode m codes made z = sym (length-map made unit_of)
+    ∙ zip_length (IsCodeIn mode m) (units_of codes) (units_of made) z ∙ length-map codes unit_of
+
+pub naive_stays : (m : Machine) (us : List PlainUnit) → AllZip (IsCodeIn Naive m) us us
+naive_stays m us = zip_refl (IsCodeIn Naive m) us (λ u. refl)
+
+-- slow combination is safe
+pub combination_safe : (m : Machine) → AreSafe m (combination m)
+combination_safe m p well = inr refl
+
+same_blocks : (xs ys : List PlainBlock) → map (λ b. b.label) xs ≡ map (λ b. b.label) ys → length xs ≡ length ys
+same_blocks xs ys e = sym (length-map xs (λ b. b.label)) ∙ ap length e ∙ length-map ys (λ b. b.label)
+
+slowed_formed : (m : Machine) (u v : PlainUnit) (tries : ℕ) → IsMachine m → IsSlowedUnit m u v tries → IsUnitCode u
+    → IsUnitCode v
+slowed_formed m u v tries is s h =
+    let before = h.placeable in
+    let keeps : KeepsForm m u.code v.code = form_kept m (combination m) u.code v.code s.pairs is (combination_safe m)
+    before.form s.slowed in
+    let blocks : length v.code ≡ length u.code = same_blocks v.code u.code keeps.labels in
+    let labels : v.labels ≡ u.labels = ap (λ (w : PlainUnit). w.labels) s.same in
+    let syms : v.syms ≡ u.syms = ap (λ (w : PlainUnit). w.syms) s.same in
+    record {
+      placeable = record {
+        form = keeps.formed;
+        straight = keeps.straight before.straight;
+        few_instrs = omega (arith, keeps.fewer, before.few_instrs);
+        few_blocks = omega (arith, blocks, before.few_blocks);
+      };
+      named = rw (labels, syms) (keeps.named (length u.labels) (length u.syms) h.named);
+    }
+
+code_formed : (mode : Mode) (m : Machine) (u v : PlainUnit) → IsMachine m → IsCodeIn mode m u v → IsUnitCode u
+    → IsUnitCode v
+code_formed Naive m u v is same h = rw same h
+code_formed Slow m u v is slowed h = slowed_formed m u v slowed.0 is slowed.1 h
+code_formed Opt m u v is slowed h = slowed_formed m u v slowed.0 is slowed.1 h
+
+pub made_formed : (mode : Mode) (m : Machine) (us vs : List PlainUnit) → IsMachine m → AllZip (IsCodeIn mode m) us vs
+    → All IsUnitCode us → All IsUnitCode vs
+made_formed mode m us vs is z formed =
+    zip_all (IsCodeIn mode m) IsUnitCode IsUnitCode us vs (λ u v. code_formed mode m u v is) z formed
+
+-- a code that is well formed and recognised
+pub record IsGood (m : Machine) (u : PlainUnit) : Type 0 where
+  pub formed : IsUnitCode u
+  pub fits : AllFit m u
+
+all_good : (m : Machine) (us : List PlainUnit) → All IsUnitCode us → All (AllFit m) us → All (IsGood m) us
+all_good m us formed fits = λ k d h. record { formed = formed k d h; fits = fits k d h }
+
+slowed_fits : (m : Machine) (u v : PlainUnit) (tries : ℕ) → IsMachine m → IsSlowedUnit m u v tries → IsGood m u
+    → AllFit m v
+slowed_fits m u v tries is slowed h = keep_fit m (combination m) u.code v.code slowed.pairs is (combination_safe m)
+    h.formed.placeable.form slowed.slowed h.fits
+
+code_fits : (mode : Mode) (m : Machine) (u v : PlainUnit) → IsMachine m → IsCodeIn mode m u v → IsGood m u → AllFit m v
+code_fits Naive m u v is same h = rw same h.fits
+code_fits Slow m u v is slowed h = slowed_fits m u v slowed.0 is slowed.1 h
+code_fits Opt m u v is slowed h = slowed_fits m u v slowed.0 is slowed.1 h
+
+pub made_fits : (mode : Mode) (m : Machine) (us vs : List PlainUnit) → IsMachine m → AllZip (IsCodeIn mode m) us vs
+    → All IsUnitCode us → All (AllFit m) us → All (AllFit m) vs
+made_fits mode m us vs is z formed fits = zip_all (IsCodeIn mode m) (IsGood m) (AllFit m) us vs
+    (λ u v. code_fits mode m u v is) z (all_good m us formed fits)
