@@ -1,5 +1,5 @@
-//! Tests of the crates that all others stand on, as tables: words, texts, names, lines, terms and the simplifier, a module
-//! for each crate.
+//! Tests of the crates that all others stand on, as tables: words, texts, names, lines, terms and the simplifier, a
+//! module for each crate.
 #![tactic(auto)]
 
 #[cfg(test)]

@@ -1,5 +1,5 @@
-//! Placements of small units' naive code, and codes that are crowded. The instruction p of a code reads at the point 2 * p and
-//! writes at the point 2 * p + 1.
+//! Placements of small units' naive code, and codes that are crowded. The instruction p of a code reads at the point 2
+//! * p and writes at the point 2 * p + 1.
 use crate::texts::{machine, unit_code};
 use po_assign::{AssignRefusal, assign, never_shared, placed_runs_alike};
 use std::alloc::Global;

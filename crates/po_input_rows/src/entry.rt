@@ -47,7 +47,19 @@ fn faults(rt: HostRuntime) {
         ("insn ret clobber cc clobber cc => y", 21, Kind::Word),
         ("insn M[%0] := %1 =>unitst %1,(%0)", 18, Kind::Word),
         ("insn M[%0] := #1[0,127] = sti (%0),#1", 25, Kind::Word),
+        // A name is read whole: none of these is a register.
+        ("insn %0 := fpx => x", 12, Kind::Word),
+        ("insn arg4 := %0 => x", 6, Kind::Word),
         // numbers and operands
+        ("insn %0 := 00000000001 => x", 12, Kind::Word),
+        ("insn %0 := 9999999999 => x", 12, Kind::Number),
+        ("insn cc := %0 ? -2147483649 => x", 17, Kind::Number),
+        ("insn cc := %0 ? #1[2147483648,0] => x", 20, Kind::Number),
+        ("insn M[(%0 + #1[1,0])] := %2 => x", 16, Kind::Range),
+        ("insn if %0 ? #1[1,0] eq goto @2 => x", 16, Kind::Range),
+        ("insn M[%0] := %1 ; goto @1 => x", 25, Kind::ListForm),
+        ("insn if %0 ? %1 eq goto @1 => x", 25, Kind::ListForm),
+        ("insn %0 := %1 ; call &0 => x", 22, Kind::ListForm),
         ("insn M[%0] := 2147483648%1 => st %1,(%0)", 15, Kind::Number),
         ("insn %0 := #1[5,4] => x", 14, Kind::Range),
         ("insn %0 := #0 => x", 12, Kind::ListForm),
@@ -72,7 +84,14 @@ fn faults(rt: HostRuntime) {
             6,
             Kind::TooMany,
         ),
+        (
+            "insn M[neg(neg(neg(neg(neg(neg(neg(neg(neg(neg(neg(neg(neg(neg(neg(neg(%1))))))))))))))))] := %0 => x",
+            6,
+            Kind::TooMany,
+        ),
         ("insn cc := %0 ? %1 clobber cc => x", 20, Kind::NeverMatches),
+        // Decided at the word `clobber`, before what stands behind it is looked at.
+        ("insn cc := %0 ? %1 clobber x => y", 20, Kind::NeverMatches),
         // the template
         ("insn ret =>", 12, Kind::Word),
         ("insn ret =>\tret", 12, Kind::Word),
@@ -115,6 +134,16 @@ fn good_lines(rt: HostRuntime) -> Result<(), Fail> {
     let lines = [
         ("insn %0 := #1 => li %0,#1", "insn %0 := #1 => li %0,#1"),
         ("  insn  ret\t=>  ", "insn ret =>  "),
+        ("insn M [ %0 ] := %1 => x", "insn M[%0] := %1 => x"),
+        (
+            "insn %0 := #1[-2147483648,2147483647] => x",
+            "insn %0 := #1[-2147483648,2147483647] => x",
+        ),
+        ("insn %0 := #1[5,5] => x", "insn %0 := #1[5,5] => x"),
+        (
+            "insn %0 := %1 ; %2 := %3 ; cc := %0 ? %2 ; M[%4] := %5 => x",
+            "insn %0 := %1 ; %2 := %3 ; cc := %0 ? %2 ; M[%4] := %5 => x",
+        ),
         (
             "insn %0 := M [ ( %1+#2[ -128 , 127 ] ) ] => ld %0,#2(%1)",
             "insn %0 := M[(%1 + #2[-128,127])] => ld %0,#2(%1)",

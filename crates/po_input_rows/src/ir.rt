@@ -1,5 +1,5 @@
-//! Faults with their places, texts that end too early, limits, and printed units. Lines are counted from 31, as where a
-//! description of 30 lines stands before the units.
+//! Faults with their places, texts that end too early, limits, and printed units. Lines are counted from 31, as where
+//! a description of 30 lines stands before the units.
 use itoa::Buffer;
 use po_ir::{print_unit, printed_units_are_read, read_units, units_are_written};
 use po_text::{Kind, Spot, TextRefusal};
@@ -8,11 +8,15 @@ use std::test::Fail;
 
 /// A loop over an array, a counter in memory and a call.
 const SUM: &str =
-    "unit sum\nadl 3\ncon 0\nsto\nadl 4\ncon 0\nsto\nlab top\nadl 3\nlod\nadl 1\nlod\nbge out\nadl 4\nadl 4\nlod\nadl 2\nlod\nadl 3\nlod\nadd\nlod\nadd\nsto\nadl 3\nadl 3\nlod\ncon 1\nadd\nsto\njmp top\nlab out\nadg calls\nadg calls\nlod\ncon 1\nadd\nsto\nadl 4\nlod\narg 0\ncall note 1\npop\nadl 4\nlod\nret\nend\n";
+    "unit sum\nadl 3\ncon 0\nsto\nadl 4\ncon 0\nsto\nlab top\nadl 3\nlod\nadl 1\nlod\nbge out\nadl 4\nadl 4\nlod\n\
+        adl 2\nlod\nadl 3\nlod\nadd\nlod\nadd\nsto\nadl 3\nadl 3\nlod\ncon 1\nadd\nsto\njmp top\nlab out\nadg calls\n\
+        adg calls\nlod\ncon 1\nadd\nsto\nadl 4\nlod\narg 0\ncall note 1\npop\nadl 4\nlod\nret\nend\n";
 
 /// The operations that the other one lacks.
 const OTHERS: &str =
-    "unit others\ncon -2147483648\ncon 2147483647\nsub\ncon -1\nmul\ndup\nand\ncon 2\nior\ncon 3\nxor\ncon 4\nshl\ncon 5\nshr\ncon 6\nsar\nneg\nnot\npop\nadl -1\ndup\nbeq a\nadl 1\ndup\nbne a\nadl 1\ndup\nblt a\nadl 1\ndup\nble a\nadl 1\ndup\nbgt a\nadl 1\ndup\nbltu a\nadl 1\ndup\nbgeu a\nlab a\njmp a\nend\n";
+    "unit others\ncon -2147483648\ncon 2147483647\nsub\ncon -1\nmul\ndup\nand\ncon 2\nior\ncon 3\nxor\ncon 4\nshl\n\
+        con 5\nshr\ncon 6\nsar\nneg\nnot\npop\nadl -1\ndup\nbeq a\nadl 1\ndup\nbne a\nadl 1\ndup\nblt a\nadl 1\ndup\n\
+        ble a\nadl 1\ndup\nbgt a\nadl 1\ndup\nbltu a\nadl 1\ndup\nbgeu a\nlab a\njmp a\nend\n";
 
 const FAULTS: [(&str, u32, u32, Kind); 39] = [
     ("unit f\ncon 1\nre\n", 33, 1, Kind::Word),
@@ -101,6 +105,31 @@ const FAULTS: [(&str, u32, u32, Kind); 39] = [
     ("unit f\ncon 1\ncon 2\nret\n", 34, 1, Kind::StackAtBoundary),
 ];
 
+/// A name of 64 bytes.
+const LONGEST: &str = "abcdefghabcdefghabcdefghabcdefghabcdefghabcdefghabcdefghabcdefgh";
+
+/// What stands before and behind a name, what the text's fault is where the name has 64 bytes, and the place of the
+/// 65th byte where it has one more.
+type Naming = (
+    &'static str,
+    &'static str,
+    Option<(u32, u32, Kind)>,
+    (u32, u32),
+);
+
+const NAMES: [Naming; 5] = [
+    ("unit ", "\n", Some((32, 1, Kind::Word)), (31, 70)),
+    ("unit f\nlab ", "\n", Some((33, 1, Kind::Word)), (32, 69)),
+    (
+        "unit f\njmp ",
+        "\nend\n",
+        Some((32, 5, Kind::NoLabel)),
+        (32, 69),
+    ),
+    ("unit f\nadg ", "\nret\nend\n", None, (32, 69)),
+    ("unit f\ncall ", " 0\nret\nend\n", None, (32, 70)),
+];
+
 /// The place and kind of the first fault; none also where the text is longer than 4,194,304 bytes.
 fn fault(alloc: Global, text: &[u8]) -> Option<TextRefusal> {
     if text.len() > 4194304 {
@@ -150,6 +179,20 @@ fn cut_texts(rt: HostRuntime) {
     assert_eq!(rt; fault(rt.alloc(), b""), None);
 }
 
+#[test]
+fn names(rt: HostRuntime) -> Result<(), Fail> {
+    let alloc = rt.alloc();
+    for (before, behind, inside, (line, col)) in NAMES {
+        let text = format!(in alloc; "{before}{LONGEST}{behind}")?;
+        let wanted = inside.map(|(line, col, kind)| TextRefusal::BadText { line, col, kind });
+        assert_eq!(rt; fault(alloc, text.as_bytes()), wanted, "{before}");
+        let text = format!(in alloc; "{before}{LONGEST}i{behind}")?;
+        let wanted = at(line, col, Kind::TooMany);
+        assert_eq!(rt; fault(alloc, text.as_bytes()), wanted, "{before}");
+    }
+    Ok(())
+}
+
 /// A text, and then another one so many times.
 fn repeated(alloc: Global, first: &str, more: &str, times: u32) -> Result<Vec<u8>, AllocError> {
     let mut text = Vec::from_slice(alloc, first.as_bytes())?;
@@ -182,6 +225,12 @@ fn limits(rt: HostRuntime) -> Result<(), Fail> {
     assert_eq!(rt; fault(alloc, &line), None);
     let line = repeated(alloc, "//", "/", 4095)?;
     assert_eq!(rt; fault(alloc, &line), at(31, 4097, Kind::TooMany));
+    // A carriage return is no part of the line right before a line feed, and a byte like any other elsewhere.
+    let mut line = repeated(alloc, "//", "/", 4094)?;
+    line.push(b'\r')?;
+    assert_eq!(rt; fault(alloc, &line), at(31, 4097, Kind::TooMany));
+    line.push(b'\n')?;
+    assert_eq!(rt; fault(alloc, &line), None);
     // 65,534 operations, and two more; then one more
     let mut most = repeated(alloc, "unit f\n", "con 1\npop\n", 32767)?;
     most.extend_from_slice(b"con 1\nret\n")?;
@@ -195,6 +244,7 @@ fn limits(rt: HostRuntime) -> Result<(), Fail> {
 #[test]
 fn too_many_units(rt: HostRuntime) -> Result<(), Fail> {
     let alloc = rt.alloc();
+    assert_eq!(rt; fault(alloc, &many(alloc, 65536)?), None);
     let text = many(alloc, 65537)?;
     assert_eq!(rt; fault(alloc, &text), at(262175, 1, Kind::TooMany));
     Ok(())

@@ -1,5 +1,5 @@
-//! Tests of the crates that read and print what `po` is given, as tables: stack code, and descriptions from the parts of
-//! an entry up.
+//! Tests of the crates that read and print what `po` is given, as tables: stack code, and descriptions from the parts
+//! of an entry up.
 #![tactic(auto)]
 
 #[cfg(test)]

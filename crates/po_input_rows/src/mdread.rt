@@ -40,48 +40,117 @@ fn tiny_again(rt: HostRuntime) -> Result<(), Fail> {
     Ok(())
 }
 
+/// What texts begin with: so many of the head lines.
+const STARTS: [&str; 5] = [
+    "",
+    "machine tiny\n",
+    "machine tiny\nframe fp\n",
+    "machine tiny\nframe fp\nresult rv\n",
+    "machine tiny\nframe fp\nresult rv\nargs a0 a1 a2 a3\n",
+];
+
+/// How many head lines a text begins with, what stands behind them, and the first fault.
+type Row = (usize, &'static str, (u32, u32, Kind));
+
+const FAULTS: [Row; 17] = [
+    (0, "", (1, 1, Kind::Word)),
+    (0, "\n// x\nmachin tiny", (3, 1, Kind::Word)),
+    (0, "machine", (1, 8, Kind::Word)),
+    (0, "machine a-b", (1, 9, Kind::Word)),
+    (0, "machine a b", (1, 11, Kind::Word)),
+    // The text ends too early, with and without a line feed.
+    (1, "", (2, 1, Kind::Word)),
+    (1, "frame fp", (3, 1, Kind::Word)),
+    (2, "result fp", (3, 8, Kind::Duplicate)),
+    (3, "args a0 a1 a2", (4, 14, Kind::Word)),
+    (3, "args a0 a1 a2 a3 a4", (4, 18, Kind::Word)),
+    (3, "args a0 rv a2 fp", (4, 9, Kind::Duplicate)),
+    // The form comes before the repeated name.
+    (3, "args a0 a0 a-2 a3", (4, 12, Kind::Word)),
+    (4, "regs", (5, 5, Kind::Word)),
+    (4, "regs r0 r1 r0", (5, 12, Kind::Duplicate)),
+    (4, "regs r0\ninsns ret => ret", (6, 1, Kind::Word)),
+    (4, "regs r0\nend x", (6, 5, Kind::Word)),
+    (4, "regs r0\n", (6, 1, Kind::Word)),
+];
+
+/// Names, terms and lists of registers that are too large, and what is just inside.
+const SIZES: [Row; 8] = [
+    // The name is a byte too long.
+    (
+        1,
+        "frame abcdefghabcdefghabcdefghabcdefghabcdefghabcdefghabcdefghabcdefghi",
+        (2, 71, Kind::TooMany),
+    ),
+    (
+        0,
+        "machine abcdefghabcdefghabcdefghabcdefghabcdefghabcdefghabcdefghabcdefghi",
+        (1, 73, Kind::TooMany),
+    ),
+    (
+        2,
+        "result abcdefghabcdefghabcdefghabcdefghabcdefghabcdefghabcdefghabcdefghi",
+        (3, 72, Kind::TooMany),
+    ),
+    (
+        3,
+        "args a0 abcdefghabcdefghabcdefghabcdefghabcdefghabcdefghabcdefghabcdefghi",
+        (4, 73, Kind::TooMany),
+    ),
+    (
+        4,
+        "regs abcdefghabcdefghabcdefghabcdefghabcdefghabcdefghabcdefghabcdefghi",
+        (5, 70, Kind::TooMany),
+    ),
+    // A term of the depth 16, behind which the text ends, and one of the depth 17.
+    (
+        4,
+        "regs r0\ninsn %0 := neg(neg(neg(neg(neg(neg(neg(neg(neg(neg(neg(neg(neg(neg(neg(%1))))))))))))))) => x\n",
+        (7, 1, Kind::Word),
+    ),
+    (
+        4,
+        "regs r0\n\
+            insn %0 := neg(neg(neg(neg(neg(neg(neg(neg(neg(neg(neg(neg(neg(neg(neg(neg(%1)))))))))))))))) => x",
+        (6, 6, Kind::TooMany),
+    ),
+    // The names r0 to r64: the last one is too many.
+    (
+        4,
+        "regs r0 r1 r2 r3 r4 r5 r6 r7 r8 r9 r10 r11 r12 r13 r14 r15 r16 r17 r18 r19 r20 r21 r22 r23 r24 r25 r26 \
+            r27 r28 r29 r30 r31 r32 r33 r34 r35 r36 r37 r38 r39 r40 r41 r42 r43 r44 r45 r46 r47 r48 r49 r50 r51 \
+            r52 r53 r54 r55 r56 r57 r58 r59 r60 r61 r62 r63 r64",
+        (5, 252, Kind::TooMany),
+    ),
+];
+
+/// The first fault of a text that begins with so many head lines.
+fn fault_behind(alloc: Global, lines: usize, rest: &str) -> Result<Option<(u32, u32, Kind)>, Fail> {
+    let start = STARTS.get(lines).copied().unwrap_or("");
+    let text = format!(in alloc; "{start}{rest}")?;
+    Ok(fault(alloc, &text))
+}
+
 #[test]
 fn faults_of_descriptions(rt: HostRuntime) -> Result<(), Fail> {
-    let alloc = rt.alloc();
-    let head = "machine tiny\nframe fp\nresult rv\nargs a0 a1 a2 a3\n";
-    // What stands behind how many of the head lines, and the fault.
-    let cases = [
-        (0, "", (1, 1, Kind::Word)),
-        (0, "\n// x\nmachin tiny", (3, 1, Kind::Word)),
-        (0, "machine", (1, 8, Kind::Word)),
-        (0, "machine a-b", (1, 9, Kind::Word)),
-        (0, "machine a b", (1, 11, Kind::Word)),
-        // The text ends too early, with and without a line feed.
-        (1, "", (2, 1, Kind::Word)),
-        (1, "frame fp", (3, 1, Kind::Word)),
-        // The name is a byte too long.
-        (
-            1,
-            "frame abcdefghabcdefghabcdefghabcdefghabcdefghabcdefghabcdefghabcdefghi",
-            (2, 71, Kind::TooMany),
-        ),
-        (2, "result fp", (3, 8, Kind::Duplicate)),
-        (3, "args a0 a1 a2", (4, 14, Kind::Word)),
-        (3, "args a0 a1 a2 a3 a4", (4, 18, Kind::Word)),
-        (3, "args a0 rv a2 fp", (4, 9, Kind::Duplicate)),
-        // The form comes before the repeated name.
-        (3, "args a0 a0 a-2 a3", (4, 12, Kind::Word)),
-        (4, "regs", (5, 5, Kind::Word)),
-        (4, "regs r0 r1 r0", (5, 12, Kind::Duplicate)),
-        (4, "regs r0\ninsns ret => ret", (6, 1, Kind::Word)),
-        (4, "regs r0\nend x", (6, 5, Kind::Word)),
-        (4, "regs r0\n", (6, 1, Kind::Word)),
-        // The names r0 to r64: the last one is too many.
-        (
-            4,
-            "regs r0 r1 r2 r3 r4 r5 r6 r7 r8 r9 r10 r11 r12 r13 r14 r15 r16 r17 r18 r19 r20 r21 r22 r23 r24 r25 r26 r27 r28 r29 r30 r31 r32 r33 r34 r35 r36 r37 r38 r39 r40 r41 r42 r43 r44 r45 r46 r47 r48 r49 r50 r51 r52 r53 r54 r55 r56 r57 r58 r59 r60 r61 r62 r63 r64",
-            (5, 252, Kind::TooMany),
-        ),
-    ];
-    let ends = [0, 13, 22, 32, 49];
-    for (lines, rest, wanted) in cases {
-        let text = format!(in alloc; "{}{}", &head[..ends[lines]], rest)?;
-        assert_eq!(rt; fault(alloc, &text), Some(wanted), "{rest}");
+    for (lines, rest, wanted) in FAULTS {
+        assert_eq!(rt;
+            fault_behind(rt.alloc(), lines, rest)?,
+            Some(wanted),
+            "{rest}"
+        );
+    }
+    Ok(())
+}
+
+#[test]
+fn sizes_of_descriptions(rt: HostRuntime) -> Result<(), Fail> {
+    for (lines, rest, wanted) in SIZES {
+        assert_eq!(rt;
+            fault_behind(rt.alloc(), lines, rest)?,
+            Some(wanted),
+            "{rest}"
+        );
     }
     Ok(())
 }
@@ -97,7 +166,34 @@ fn too_many_entries(rt: HostRuntime) -> Result<(), Fail> {
         text.push_str("insn ret => ret\n")?;
     }
     assert_eq!(rt; fault(alloc, &text), Some((518, 1, Kind::Word)));
+    let whole = format!(in alloc; "{}end\n", text)?;
+    assert!(rt; again(alloc, &whole)?.is_some());
     text.push_str("insn x\n")?;
     assert_eq!(rt; fault(alloc, &text), Some((518, 1, Kind::TooMany)));
+    Ok(())
+}
+
+/// A description whose machine has a name of 64 bytes, with the registers r0 to r63, and a comment of so many bytes.
+fn with_comment(alloc: Global, length: u32) -> Result<String, Fail> {
+    let mut text = String::from_str(
+        alloc,
+        "machine abcdefghabcdefghabcdefghabcdefghabcdefghabcdefghabcdefghabcdefgh\nframe fp\nresult \
+            rv\nargs a0 a1 a2 a3\nregs r0 r1 r2 r3 r4 r5 r6 r7 r8 r9 r10 r11 r12 r13 r14 r15 r16 r17 r18 r19 \
+            r20 r21 r22 r23 r24 r25 r26 r27 r28 r29 r30 r31 r32 r33 r34 r35 r36 r37 r38 r39 r40 r41 r42 r43 \
+            r44 r45 r46 r47 r48 r49 r50 r51 r52 r53 r54 r55 r56 r57 r58 r59 r60 r61 r62 r63\n//",
+    )?;
+    for _ in 2..length {
+        text.push_str("x")?;
+    }
+    text.push_str("\nend\n")?;
+    Ok(text)
+}
+
+#[test]
+fn limits_of_descriptions(rt: HostRuntime) -> Result<(), Fail> {
+    let alloc = rt.alloc();
+    assert!(rt; again(alloc, &with_comment(alloc, 4096)?)?.is_some());
+    let wanted = Some((6, 4097, Kind::TooMany));
+    assert_eq!(rt; fault(alloc, &with_comment(alloc, 4097)?), wanted);
     Ok(())
 }

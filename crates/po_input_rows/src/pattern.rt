@@ -66,11 +66,13 @@ const LIMITS: [(&str, bool); 4] = [
     ("M[M[M[M[M[M[M[M[M[M[M[M[M[M[M[%0]]]]]]]]]]]]]]]", true),
     ("M[M[M[M[M[M[M[M[M[M[M[M[M[M[M[M[%0]]]]]]]]]]]]]]]]", false),
     (
-        "neg((((((%0+%0)+(%0+%0))+((%0+%0)+(%0+%0)))+(((%0+%0)+(%0+%0))+((%0+%0)+(%0+%0))))+((((%0+%0)+(%0+%0))+((%0+%0)+(%0+%0)))+(((%0+%0)+(%0+%0))+((%0+%0)+(%0+%0))))))",
+        "neg((((((%0+%0)+(%0+%0))+((%0+%0)+(%0+%0)))+(((%0+%0)+(%0+%0))+((%0+%0)+(%0+%0))))\
+            +((((%0+%0)+(%0+%0))+((%0+%0)+(%0+%0)))+(((%0+%0)+(%0+%0))+((%0+%0)+(%0+%0))))))",
         true,
     ),
     (
-        "neg(neg((((((%0+%0)+(%0+%0))+((%0+%0)+(%0+%0)))+(((%0+%0)+(%0+%0))+((%0+%0)+(%0+%0))))+((((%0+%0)+(%0+%0))+((%0+%0)+(%0+%0)))+(((%0+%0)+(%0+%0))+((%0+%0)+(%0+%0)))))))",
+        "neg(neg((((((%0+%0)+(%0+%0))+((%0+%0)+(%0+%0)))+(((%0+%0)+(%0+%0))+((%0+%0)+(%0+%0))))\
+            +((((%0+%0)+(%0+%0))+((%0+%0)+(%0+%0)))+(((%0+%0)+(%0+%0))+((%0+%0)+(%0+%0)))))))",
         false,
     ),
 ];
@@ -128,7 +130,7 @@ fn is_sum_read(read: Result<Parsed<Option<PatTerm>>, LineError>) -> bool {
 }
 
 /// Whether a fixed register was read.
-fn is_fixed(read: Result<Parsed<PatReg>, LineError>) -> bool {
+fn is_fixed(read: Result<Parsed<PatReg>, LineFault>) -> bool {
     match read {
         Ok(parsed) => matches!(parsed.value, PatReg::Fixed(_)),
         Err(_) => false,
@@ -136,7 +138,7 @@ fn is_fixed(read: Result<Parsed<PatReg>, LineError>) -> bool {
 }
 
 /// The digit that was read.
-fn digit(read: Result<Parsed<u8>, LineError>) -> Option<u8> {
+fn digit(read: Result<Parsed<u8>, LineFault>) -> Option<u8> {
     match read {
         Ok(parsed) => Some(parsed.value),
         Err(_) => None,

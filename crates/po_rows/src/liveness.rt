@@ -1,18 +1,19 @@
 //! What is live after each instruction of small codes, by hand from the rules of liveness.
-ghost use Rattle.std.specs.Prelude.{◌≡◌, ◌↔◌, IsTrue, map, None};
+ghost use Rattle.std.specs.Prelude.{ℕ, ◌≡◌, ◌↔◌, ◌<◌, IsTrue, map, length, None};
 ghost use Rattle.po_term.specs.Moves.{moves_of, instrs_of};
-ghost use Rattle.po_model.specs.Blocks.{block_of, EndsLast, IsCode};
+ghost use Rattle.po_model.specs.Blocks.{block_of, code_of, instrs_at, EndsLast, IsCode};
 ghost use Rattle.po_model.specs.Parts.{ending_of};
+ghost use Rattle.po_live.specs.Parts.{blocks_in, parts_in, IsLiveList, HasParts};
 
-use po_live::{Lives, live_after};
+use po_live::{LiveAt, LiveList, Lives, live_after, live_list};
 use po_model::{Block, Code, Live};
 use po_term::{Cond, Instr, Label, Reg, Sym, Term, Transfer};
 use po_word::{OutOfMemory, Rel};
 use std::alloc::Global;
 use std::test::Fail;
 
-/// Codes by their blocks, in which a digit is the block's label and each letter an instruction (`transfer` says which);
-/// and what is live after each instruction.
+/// Codes by their blocks, in which a digit is the block's label and each letter an instruction (`transfer` says
+/// which); and what is live after each instruction.
 const CODES: [(&[&str], &str); 7] = [
     // a straight block
     (&["zuvr"], "v0 fp;v1 fp;fp rv;fp;"),
@@ -37,6 +38,17 @@ const CODES: [(&[&str], &str); 7] = [
     (&["zg", "1", "ur"], "v0 fp rv;v0 fp rv;fp rv;fp;"),
     // the first of two blocks with one label
     (&["zg", "1ur", "1r"], "v0 fp rv;v0 fp rv;fp rv;fp;fp;"),
+];
+
+/// The registers of these codes, in the order in which they are shown.
+const REGS: [Reg; 7] = [
+    Reg::Virt(0),
+    Reg::Virt(1),
+    Reg::Virt(2),
+    Reg::Fp,
+    Reg::Rv,
+    Reg::Arg(0),
+    Reg::Arg(1),
 ];
 
 fn transfer(letter: u8) -> Transfer {
@@ -126,16 +138,20 @@ fn name(r: Reg) -> &'static str {
     }
 }
 
-fn show(text: &mut String, live: &Live) -> Result<(), OutOfMemory> {
-    for r in &live.regs {
-        text.push_str(name(*r))?;
-    }
-    if live.cc {
+fn show_cc(text: &mut String, cc: bool) -> Result<(), OutOfMemory> {
+    if cc {
         text.push_str("cc ")?;
     }
     text.pop();
     text.push_str(";")?;
     Ok(())
+}
+
+fn show(text: &mut String, live: &Live) -> Result<(), OutOfMemory> {
+    for r in &live.regs {
+        text.push_str(name(*r))?;
+    }
+    show_cc(text, live.cc)
 }
 
 fn shown(alloc: Global, lives: &Lives) -> Result<String, OutOfMemory> {
@@ -144,6 +160,46 @@ fn shown(alloc: Global, lives: &Lives) -> Result<String, OutOfMemory> {
         for live in block {
             show(&mut text, live)?;
         }
+    }
+    Ok(text)
+}
+
+fn show_part(text: &mut String, live: LiveAt) -> Result<(), OutOfMemory> {
+    for r in &REGS {
+        if live.has(*r) {
+            text.push_str(name(*r))?;
+        }
+    }
+    show_cc(text, live.cc)
+}
+
+fn show_parts(text: &mut String, list: &LiveList, b: usize, n: usize) -> Result<(), OutOfMemory>
+    requires { HasParts list.now b n }
+{
+    for i in 0..n {
+        show_part(text, list.at(b, i))?;
+    }
+    Ok(())
+}
+
+fn show_block(text: &mut String, c: &Code, list: &LiveList, b: usize) -> Result<(), OutOfMemory>
+    requires block { b < length c.now.blocks.items }
+    requires list { IsLiveList list.now }
+    requires blocks { blocks_in list.now ≡ length (code_of c.now) }
+    requires lengths { (b : ℕ) → parts_in list.now b ≡ length (instrs_at (code_of c.now) b) }
+{
+    show_parts(text, list, b, c.blocks[b].instrs.len())
+}
+
+/// What the list of a code says, after each instruction.
+fn shown_parts(alloc: Global, c: &Code, list: &LiveList) -> Result<String, OutOfMemory>
+    requires list { IsLiveList list.now }
+    requires blocks { blocks_in list.now ≡ length (code_of c.now) }
+    requires lengths { (b : ℕ) → parts_in list.now b ≡ length (instrs_at (code_of c.now) b) }
+{
+    let mut text = String::new(alloc);
+    for b in 0..c.blocks.len() {
+        show_block(&mut text, c, list, b)?;
     }
     Ok(text)
 }
@@ -157,6 +213,9 @@ fn codes(rt: HostRuntime) -> Result<(), Fail> {
         let lives = live_after(alloc, &c)?;
         let text = shown(alloc, &lives)?;
         assert_eq!(rt; text.as_str(), want);
+        let list = live_list(alloc, &c)?;
+        let parts = shown_parts(alloc, &c, &list)?;
+        assert_eq!(rt; parts.as_str(), want);
     }
     Ok(())
 }

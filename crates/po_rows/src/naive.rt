@@ -1,9 +1,10 @@
 //! The mode `naive`. The lines of `TINY` are 1 to 30, so a unit behind it begins in line 31.
 
-use crate::runs::{GOOD, Streams, push_times, run, run_words, text_of};
+use crate::runs::{Ended, GOOD, Streams, push_times, run, run_words, text_of};
 use po_mdread::TINY;
 use po_run::Status;
 use po_text::Kind;
+use std::alloc::Global;
 use std::test::Fail;
 
 const HEAD: &str = "machine tiny\nframe fp\nresult rv\nargs a0 a1 a2 a3\nregs r0 r1 r2 r3\n";
@@ -68,10 +69,11 @@ const LOAD_AND_ADD: &str = "unit f\nadl 4\nlod\ncon 1\nadd\nret\nend\n";
 const FOUR_VALUES: &str = "unit f\ncon 1\ncon 2\ncon 3\ncon 4\nadd\nadd\nadd\nret\nend\n";
 
 const FOUR_VALUES_ASSEMBLY: &str =
-    "f:\n  li r0,1\n  li r1,2\n  li r2,3\n  li r3,4\n  add r2,r2,r3\n  add r1,r1,r2\n  add r0,r0,r1\n  mov rv,r0\n  ret\n";
+    "f:\n  li r0,1\n  li r1,2\n  li r2,3\n  li r3,4\n  add r2,r2,r3\n  add r1,r1,r2\n  add r0,r0,r1\n  mov rv,r0\
+        \n  ret\n";
 
 /// An input that compiles, and its assembly.
-const COMPILES: [([&str; 3], &str); 11] = [
+const COMPILES: [([&str; 3], &str); 12] = [
     // One constant.
     (
         [HEAD, SMALLEST, "unit f\ncon 1\nret\nend\n"],
@@ -95,12 +97,23 @@ const COMPILES: [([&str; 3], &str); 11] = [
             "unit f\ncon 3\ncon 3\nbeq L\ncon 1\nret\nlab L\ncon 2\nret\nend\n",
             "unit g\nlab L\njmp L\nend\n",
         ],
-        "f:\n  li r0,3\n  li r1,3\n  cmp r0,r1\n  beq f.L\n  li r0,1\n  mov rv,r0\n  ret\nf.L:\n  li r0,2\n  mov rv,r0\n  ret\ng:\ng.L:\n  jmp g.L\n",
+        "f:\n  li r0,3\n  li r1,3\n  cmp r0,r1\n  beq f.L\n  li r0,1\n  mov rv,r0\n  ret\n\
+            f.L:\n  li r0,2\n  mov rv,r0\n  ret\ng:\ng.L:\n  jmp g.L\n",
     ),
     // A call and its argument; its result is read in the next block.
     (
         [TINY, "", "unit f\nadg x\narg 0\ncall g 1\nret\nend\n"],
         "f:\n  la r0,x\n  mov a0,r0\n  call g\n  mov r0,rv\n  mov rv,r0\n  ret\n",
+    ),
+    // As many arguments as a call may have.
+    (
+        [
+            TINY,
+            "unit f\ncon 1\narg 0\ncon 2\narg 1\ncon 3\narg 2\ncon 4\narg 3\n",
+            "call g 4\nret\nend\n",
+        ],
+        "f:\n  li r0,1\n  mov a0,r0\n  li r0,2\n  mov a1,r0\n  li r0,3\n  mov a2,r0\n  li r0,4\n  mov a3,r0\
+            \n  call g\n  mov r0,rv\n  mov rv,r0\n  ret\n",
     ),
     // A constant has its signed view.
     (
@@ -373,26 +386,6 @@ fn has_no_word(rt: HostRuntime) -> Result<(), Fail> {
     Ok(())
 }
 
-/// An input of one byte more than the limit: the place is that of this byte.
-#[test]
-fn is_too_long(rt: HostRuntime) -> Result<(), Fail> {
-    let streams = Streams {
-        most: 65536,
-        read_fails: 0,
-        write_fails: 0,
-        room: 0,
-    };
-    let text = vec![in rt.alloc(); b'\n'; 4194305]?;
-    let ended = run(rt.alloc(), "naive", text, &streams)?;
-    let too_long = Status::BadText {
-        line: 4194305,
-        col: 1,
-        kind: Kind::TooMany,
-    };
-    assert_eq!(rt; ended.status, too_long);
-    Ok(())
-}
-
 /// A line of 4,097 bytes; the longest unit, and one that is longer.
 #[test]
 fn keeps_to_the_limits(rt: HostRuntime) -> Result<(), Fail> {
@@ -437,34 +430,35 @@ fn keeps_to_the_limits(rt: HostRuntime) -> Result<(), Fail> {
     Ok(())
 }
 
-/// As many values at once as the largest machine has registers.
-#[test]
-fn fills_the_largest_machine(rt: HostRuntime) -> Result<(), Fail> {
+/// What becomes of 64 values at once on a machine of so many registers.
+fn run_64_values(alloc: Global, registers: u32) -> Result<Ended, Fail> {
     let mut text = text_of(
-        rt.alloc(),
+        alloc,
         &["machine m\nframe fp\nresult rv\nargs a0 a1 a2 a3\nregs"],
     )?;
-    for k in 0..64 {
-        let name = format!(in rt.alloc(); " r{k}")?;
+    for k in 0..registers {
+        let name = format!(in alloc; " r{k}")?;
         text.extend_from_slice(name.as_bytes())?;
     }
-    text.extend_from_slice(b"\n")?;
-    text.extend_from_slice(SMALL.as_bytes())?;
-    text.extend_from_slice(b"unit f\n")?;
-    for _ in 0..64 {
-        text.extend_from_slice(b"con 1\n")?;
-    }
-    for _ in 0..63 {
-        text.extend_from_slice(b"add\n")?;
-    }
-    text.extend_from_slice(b"ret\nend\n")?;
+    push_times(&mut text, "\n", 1)?;
+    push_times(&mut text, SMALL, 1)?;
+    push_times(&mut text, "unit f\n", 1)?;
+    push_times(&mut text, "con 1\n", 64)?;
+    push_times(&mut text, "add\n", 63)?;
+    push_times(&mut text, "ret\nend\n", 1)?;
     let wide = Streams {
         most: 4096,
         read_fails: 0,
         write_fails: 0,
         room: 10000,
     };
-    let ended = run(rt.alloc(), "naive", text, &wide)?;
+    run(alloc, "naive", text, &wide)
+}
+
+/// As many values at once as the largest machine has registers, and on a machine that has one register less.
+#[test]
+fn fills_the_largest_machine(rt: HostRuntime) -> Result<(), Fail> {
+    let ended = run_64_values(rt.alloc(), 64)?;
     assert_eq!(rt; ended.status, Status::Done);
     assert!(rt;
         ended
@@ -472,5 +466,12 @@ fn fills_the_largest_machine(rt: HostRuntime) -> Result<(), Fail> {
             .kept()
             .ends_with(b"\n  add r0,r0,r1\n  mov rv,r0\n  ret\n")
     );
+    let ended = run_64_values(rt.alloc(), 63)?;
+    let crowded = Status::TooFew {
+        unit: 0,
+        point: 127,
+        needed: 64,
+    };
+    assert_eq!(rt; ended.status, crowded);
     Ok(())
 }

@@ -17,8 +17,8 @@ use std::marker::Brand;
 use std::sync::ledger::{Blank, Ledger};
 use std::test::Fail;
 
-/// A unit of one block, how many pairs each pass over it tries, one pass behind the other, and how many instructions are
-/// left.
+/// A unit of one block, how many pairs each pass over it tries, one pass behind the other, and how many instructions
+/// are left.
 const UNITS: [(&str, &[usize], usize); 2] = [
     (
         "unit f\nadl 4\nadl 4\nlod\ncon 1\nadd\nsto\ncon 0\nret\nend\n",

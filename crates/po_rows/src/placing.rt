@@ -1,5 +1,5 @@
-//! Placement where the mode `slow` makes one instruction that sets two registers. The instruction p of a code reads at the
-//! point 2 * p and writes at the point 2 * p + 1.
+//! Placement where the mode `slow` makes one instruction that sets two registers. The instruction p of a code reads at
+//! the point 2 * p and writes at the point 2 * p + 1.
 
 use crate::runs::{GOOD, run, text_of};
 use po_run::Status;

@@ -6,9 +6,12 @@ use po_run::Status;
 use po_text::Kind;
 use std::test::Fail;
 
-const STORE_BACK: &str = "unit f\nadl 4\nadl 4\nlod\ncon 1\nadd\nsto\ncon 0\nret\nend\n";
+pub(crate) const STORE_BACK: &str = "unit f\nadl 4\nadl 4\nlod\ncon 1\nadd\nsto\ncon 0\nret\nend\n";
 
-const SUM: &str = "\
+pub(crate) const STORE_BACK_ASSEMBLY: &str =
+    "f:\n  lea r0,4\n  ld r1,4(fp)\n  addi r1,r1,1\n  st r1,(r0)\n  li rv,0\n  ret\n";
+
+pub(crate) const SUM: &str = "\
 unit sum\n\
 adl 3\ncon 0\nsto\nadl 4\ncon 0\nsto\n\
 lab top\nadl 3\nlod\nadl 1\nlod\nbge out\n\
@@ -34,10 +37,7 @@ unit f\nadl 1\nlod\nadl 2\nlod\nadl 3\nlod\nadl 4\nlod\nadl 5\nlod\nadd\nadd\nad
 const COMPILES: [(&str, &str); 10] = [
     ("", ""),
     // The address of a store stays in a register.
-    (
-        STORE_BACK,
-        "f:\n  lea r0,4\n  ld r1,4(fp)\n  addi r1,r1,1\n  st r1,(r0)\n  li rv,0\n  ret\n",
-    ),
+    (STORE_BACK, STORE_BACK_ASSEMBLY),
     (
         "unit f\nadl 4\nlod\ncon 1\nadd\nret\nend\n",
         "f:\n  ld r0,4(fp)\n  addi rv,r0,1\n  ret\n",

@@ -1,0 +1,7 @@
+//! Tests of sample units, as tables.
+#![tactic(auto)]
+
+#[cfg(test)]
+mod samples;
+#[cfg(test)]
+mod summaries;
