@@ -1,0 +1,2 @@
+autocmd BufNewFile,BufRead *.unit setfiletype pounit
+autocmd BufNewFile,BufRead *.desc setfiletype podesc
