@@ -2,6 +2,7 @@
 """A compiler of a tiny language into the stack code of po.
 
     front.py PROGRAM..          prints the stack code of the programs, taken as one
+    front.py --lines PROGRAM..  likewise, with a comment line `// FILE:LINE` before each statement, which tools/explain shows
     front.py --data PROGRAM..   prints the assembler's lines for their global variables
 
 A program is a list of `var a, b[N];` and `func name(p, q) { .. }`; globals stand before the routines that use them. The routine
@@ -127,9 +128,9 @@ class Reader:
 class Compiler(Reader):
     """Makes the lines of stack code while it reads a program."""
 
-    def __init__(self, paths):
+    def __init__(self, paths, tells_lines=False):
         super().__init__(paths)
-        self.lines, self.globals = [], []
+        self.lines, self.globals, self.tells_lines = [], [], tells_lines
         self.labels, self.words = 0, 0      # how many labels there are; how many words of the frame are taken
         self.places = {}                    # by name: the operation that gives the address, and the size of an array
 
@@ -187,6 +188,8 @@ class Compiler(Reader):
         self.places, self.words = places, words
 
     def statement(self):
+        if self.tells_lines:
+            self.emit(f"// {self.tokens[self.place][1]}")
         if self.accept("var"):
             for variable in self.list_of(self.new_variable, ";"):
                 self.declare(*variable)
@@ -290,10 +293,10 @@ class Compiler(Reader):
 
 
 def main(words):
-    data = words[:1] == ["--data"]
-    compiler = Compiler(words[data:])
+    option = words[0] if words[:1] in (["--data"], ["--lines"]) else ""
+    compiler = Compiler(words[bool(option):], option == "--lines")
     compiler.program()
-    print("\n".join(compiler.data() if data else compiler.lines))
+    print("\n".join(compiler.data() if option == "--data" else compiler.lines))
 
 
 if __name__ == "__main__":
