@@ -38,9 +38,8 @@ fn writer_of<T: Table + Drop, L: StoreName, R: Wait>(
 }
 
 /// The publisher and the readers of a new store, whose table has no rule. Readers have seen nothing. It fails only
-/// where memory is refused, and no later publication needs memory of the library. `opened` is the store's history and
-/// `blank` its count, which the name L is then picked for (docs/LEARNING.md, "The store"). It shows the first version
-/// before a reader is made, so it has nobody to wait for.
+/// where memory is refused. `opened` is the store's history and `blank` its count, which the name L is then picked for
+/// (docs/LEARNING.md, "The store"). It shows the first version before a reader is made, so it has nobody to wait for.
 pub fn open_store<T: Table + Drop, L: StoreName, R: Wait + Drop>(
     alloc: Global,
     rt: R,
