@@ -174,9 +174,9 @@ pub answered_none : {T : Type 0} (crowd : Option Crowd) (out : List ℕ) (c : Co
 answered_none {T = T} crowd out c none e =
     subst (λ (k : Option Crowd). Answered {T = T} k out (Ok c)) (sym none) e
 
-pub answered_some : {T : Type 0} (crowd : Option Crowd) (out : List ℕ) (c : Crowd) → crowd ≡ Some c
+pub answered_some : (T : Type 0) (crowd : Option Crowd) (out : List ℕ) (c : Crowd) → crowd ≡ Some c
     → Answered {T = T} crowd out (Err (refusal.TooFew c.unit c.point c.needed))
-answered_some {T = T} crowd out c some = subst (λ (k : Option Crowd). Answered {T = T} k out (Err (refusal.TooFew c.unit
+answered_some T crowd out c some = subst (λ (k : Option Crowd). Answered {T = T} k out (Err (refusal.TooFew c.unit
     c.point c.needed))) (sym some) refl
 
 -- what is answered is what compiling gives

@@ -16,6 +16,6 @@ returns-in-Naive g c = subst (λ (alone : Alone). IsCodeIn (mode_alone alone) c.
 
 pub returns-in_ok-slowed-in-Slow : goal.returns-in_ok-slowed-in-Slow
 returns-in_ok-slowed-in-Slow g c =
-    let slowed = c.in_ok-slowed.ensures.slowed in
+    let slowed = c.in_ok-slowed-in-Slow.ensures.slowed in
     subst (λ (alone : Alone). IsCodeIn (mode_alone alone) c.args.target.now.machine (unit_of c.args.code)
-    (unit_of c.in_ok-slowed.slowed)) (sym c.in-Slow.is) (slowed.0, slowed.1)
+    (unit_of c.in_ok-slowed-in-Slow.slowed)) (sym c.in-Slow.is) (slowed.0, slowed.1)

@@ -28,11 +28,3 @@ returns-in-Ok c = λ text input.
     (subst (λ (m : Machine). AreDone (mode_alone c.args.alone) m (naive_codes c.as_slice.result.now) c.in-Ok.work)
     c.in_ok-target.ensures.machine c.in-Ok.ensures.done))
     c.outcome.ensures
-
-pub returns-in-Err : goal.returns-in-Err
-returns-in-Err c = λ text input.
-    checked_cause (mode_alone c.args.alone) text c.args.program.machine c.args.program.units c.in-Err.refusal input
-    (subst (λ (us : List StackUnit). Checked c.args.program.machine (naive_codes us) (Err c.in-Err.refusal))
-    c.as_slice.ensures
-    (subst (λ (m : Machine). Checked m (naive_codes c.as_slice.result.now) (Err c.in-Err.refusal))
-    c.in_ok-target.ensures.machine c.in-Err.ensures.refused))
