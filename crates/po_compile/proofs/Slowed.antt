@@ -1,15 +1,14 @@
 -- What is so of the codes that a mode makes.
-use Rattle.std.proofs.Common.{◌≡◌, ℕ, zero, suc, List, [], ◌∷◌, ◌++◌, length, map, All, refl, ap, sym, ◌∙◌, subst}
-use Rattle.std.proofs.Common.{arith, append_assoc, append-nil, inr}
+use Rattle.std.proofs.Common.{◌≡◌, ℕ, zero, suc, List, [], ◌∷◌, length, map, All, refl, ap, sym, ◌∙◌}
+use Rattle.std.proofs.Common.{arith, inr}
 use Rattle.std.proofs.lemmas.List.{length-map}
 use Rattle.std.specs.List.{AllZip}
-use Rattle.po_model.specs.declared.code.UnitCode.{UnitCode}
 use Rattle.po_model.specs.declared.machine.Machine.{Machine}
 use Rattle.po_model.specs.Blocks.{PlainBlock}
 use Rattle.po_model.specs.Combined.{combination}
 use Rattle.po_model.specs.Machines.{IsMachine}
 use Rattle.po_model.specs.Scanned.{AreSafe}
-use Rattle.po_model.specs.UnitCodes.{PlainUnit, unit_of, IsUnitCode, IsFormedCode}
+use Rattle.po_model.specs.UnitCodes.{PlainUnit, IsUnitCode}
 use Rattle.po_slow.specs.Passes.{IsSlowedUnit, KeepsForm}
 use Rattle.po_slow.proofs.KeptForm.{form_kept}
 use Rattle.po_slow.proofs.LivenessPasses.{keep_fit}
@@ -17,9 +16,7 @@ use Rattle.po_compile.specs.declared.mode.Mode.{Mode}
 use Rattle.po_compile.specs.declared.mode.Mode.TheVariants.{Naive, Slow, Opt}
 use Rattle.po_compile.specs.Modes.{IsCodeIn}
 use Rattle.po_compile.specs.Output.{AllFit}
-use Rattle.po_compile.specs.Steps.{units_of}
 use Rattle.po_compile.proofs.Each.{all_cons}
-use Rattle.po_compile.proofs.Written.{units_append}
 
 zip_all : {A : Type 0} (R : A → A → Type 0) (P Q : A → Type 0) (us vs : List A) → ((u v : A) → R u v → P u → Q v)
     → AllZip R us vs → All P us → All Q vs

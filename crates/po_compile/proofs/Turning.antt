@@ -1,10 +1,9 @@
 -- One unit more goes from its operations to its assembly.
-use Rattle.std.proofs.Common.{◌≡◌, ℕ, zero, suc, ◌+◌, ◌<◌, ◌≤◌, Bool, true, false, List, [], ◌∷◌, ◌++◌, length, take}
+use Rattle.std.proofs.Common.{◌≡◌, ℕ, zero, suc, ◌+◌, ◌<◌, ◌≤◌, true, List, [], ◌∷◌, ◌++◌, length, take}
 use Rattle.std.proofs.Common.{map, get_or, All, Option, Some, None, Result, Ok, Err, refl, ap, sym, ◌∙◌, subst, arith}
 use Rattle.std.proofs.Common.{append_assoc, append-nil, add-one}
 use Rattle.std.specs.Prelude.{is_some}
 use Rattle.std.specs.List.{AllZip}
-use Rattle.std.proofs.lemmas.List.{length-map}
 use Rattle.std.proofs.lemmas.Bool.{false≢true}
 use Rattle.po_ir.specs.declared.unit.Unit.{Unit as StackUnit}
 use Rattle.po_assign.specs.declared.answer.Placed.{Placed}
@@ -25,14 +24,14 @@ use Rattle.po_compile.specs.declared.work.Crowd.{Crowd}
 use Rattle.po_compile.specs.declared.work.Work.{Work}
 use Rattle.po_compile.specs.Input.{IsInput}
 use Rattle.po_compile.specs.Modes.{IsCodeIn, mode_alone}
-use Rattle.po_compile.specs.Output.{FirstBad, AllFit, HasRoom, IsShort, AreAssembled, IsOutput, naive_codes}
+use Rattle.po_compile.specs.Output.{FirstBad, AllFit, HasRoom, IsShort, AreAssembled, naive_codes}
 use Rattle.po_compile.specs.Rules.{AreRulesIn}
 use Rattle.po_compile.specs.Statuses.{Compiles, HasCause}
 use Rattle.po_compile.specs.Steps.{Checked}
 use Rattle.po_compile.specs.Turns.{Come, AreDone, CheckedUnit, Answered}
-use Rattle.po_compile.proofs.Assembled.{IsMade, output_of}
+use Rattle.po_compile.proofs.Assembled.{output_of}
 use Rattle.po_compile.proofs.Each.{all_append}
-use Rattle.po_compile.proofs.Slowed.{zip_length, code_formed, made_formed}
+use Rattle.po_compile.proofs.Slowed.{zip_length, made_formed}
 
 -- The first that is bad
 
@@ -185,7 +184,6 @@ pub answered : {T : Type 0} (a : Alone) (text : List ℕ) (m : Machine) (us : Li
     → AreDone (mode_alone a) m (naive_codes us) w → Answered w.crowd w.out.items r → Compiles (mode_alone a) text r
 answered {T = T} a text m us w r is input done told = go w.crowd r done.come told
   where
-
     go : (crowd : Option Crowd) (r : Result (Compiled T) Refusal) → Come m done.made crowd w.out.items
         → Answered crowd w.out.items r → Compiles (mode_alone a) text r
     go None (Ok c) come told = (

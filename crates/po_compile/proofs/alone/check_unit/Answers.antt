@@ -16,6 +16,8 @@ pub check_by-requires-clause-index : goal.check_by-requires-clause-index
 check_by-requires-clause-index c = c.requires.target.index
 
 pub returns-in-Err-Unrecognised : goal.returns-in-Err-Unrecognised
-returns-in-Err-Unrecognised c = rw (c.in-Err-Unrecognised.block-is, c.in-Err-Unrecognised.index-is)
-    (refl, unrecognised c.args.target.now.machine (unit_of c.args.code.now) _ _ _ c.in-Err-Unrecognised.field-0-is
-    c.in-Err-Unrecognised.ensures)
+returns-in-Err-Unrecognised c = rw (c.in-Err-Unrecognised.block-is, c.in-Err-Unrecognised.index-is) (
+  refl,
+  unrecognised c.args.target.now.machine (unit_of c.args.code.now) _ _ _ c.in-Err-Unrecognised.field-0-is
+      c.in-Err-Unrecognised.ensures,
+)

@@ -1,4 +1,4 @@
-use Rattle.std.proofs.Common.{◌≡◌, refl, sym, subst}
+use Rattle.std.proofs.Common.{refl, sym, subst}
 use Rattle.po_model.specs.UnitCodes.{unit_of}
 use Rattle.po_compile.specs.declared.mode.Alone.{Alone}
 use Rattle.po_compile.specs.Modes.{mode_alone, IsCodeIn}

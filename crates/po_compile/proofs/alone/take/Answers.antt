@@ -1,6 +1,5 @@
-use Rattle.std.proofs.Common.{◌≡◌, ◌∙◌, sym, subst, refl}
 use Rattle.po_model.specs.Naive.{naive}
-use Rattle.po_model.specs.UnitCodes.{unit_of, IsUnitCode}
+use Rattle.po_model.specs.UnitCodes.{unit_of}
 use Rattle.po_compile.specs.Modes.{mode_alone}
 use Rattle.po_compile.proofs.Slowed.{code_formed}
 use Rattle.po_compile.proofs.Turning.{done_next}

@@ -1,4 +1,4 @@
-use Rattle.std.proofs.Common.{◌≡◌, ◌∙◌, List, refl, ap, sym, subst, take, take_all, arith}
+use Rattle.std.proofs.Common.{◌∙◌, List, refl, sym, subst, take, take_all, arith}
 use Rattle.po_model.specs.UnitCodes.{PlainUnit}
 use Rattle.po_ir.specs.declared.unit.Unit.{Unit as StackUnit}
 use Rattle.po_compile.specs.Modes.{mode_alone}

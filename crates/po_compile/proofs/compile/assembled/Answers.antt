@@ -1,12 +1,11 @@
-use Rattle.std.proofs.Common.{◌≡◌, ◌≤◌, List, All, Err, length, ap, sym, subst, arith}
+use Rattle.std.proofs.Common.{◌≡◌, ◌≤◌, List, length, ap, sym, subst, arith}
 use Rattle.po_ir.specs.declared.unit.Unit.{Unit as StackUnit}
 use Rattle.po_model.specs.declared.machine.Machine.{Machine}
 use Rattle.po_model.specs.Machines.{IsMachine}
 use Rattle.po_compile.specs.Modes.{mode_alone}
 use Rattle.po_compile.specs.Output.{naive_codes}
-use Rattle.po_compile.specs.Steps.{Checked}
 use Rattle.po_compile.specs.Turns.{AreDone}
-use Rattle.po_compile.proofs.Turning.{answered, checked_cause}
+use Rattle.po_compile.proofs.Turning.{answered}
 use Rattle.po_compile.proofs.compile.assembled.Goals as goal
 
 pub assemble-requires-clause-machine : goal.assemble-requires-clause-machine

@@ -1,4 +1,4 @@
-use Rattle.std.proofs.Common.{◌≡◌, ◌∙◌, sym}
+use Rattle.std.proofs.Common.{◌∙◌, sym}
 use Rattle.po_model.specs.UnitCodes.{unit_of}
 use Rattle.po_compile.proofs.Turning.{come_behind}
 use Rattle.po_compile.proofs.work.Work.add.Goals as goal

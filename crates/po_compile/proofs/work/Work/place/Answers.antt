@@ -1,4 +1,4 @@
-use Rattle.std.proofs.Common.{◌≡◌, ◌∙◌, ap, sym, subst}
+use Rattle.std.proofs.Common.{ap, sym, subst}
 use Rattle.po_model.specs.declared.code.UnitCode.{UnitCode}
 use Rattle.po_model.specs.Blocks.{IsCode}
 use Rattle.po_model.specs.UnitCodes.{unit_of}
