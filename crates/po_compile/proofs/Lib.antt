@@ -12,3 +12,4 @@ mod OnlyOne
 mod OneRules
 mod OneOutput
 mod Runs
+pub mod Turning

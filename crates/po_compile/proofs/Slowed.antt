@@ -1,15 +1,14 @@
--- All units go through all passes, one after another; and what is so of the codes that a mode makes.
-use Rattle.std.proofs.Common.{◌≡◌, ℕ, zero, suc, List, [], ◌∷◌, ◌++◌, length, map, All, refl, ap, sym, ◌∙◌, subst}
-use Rattle.std.proofs.Common.{arith, append_assoc, append-nil, inr}
+-- What is so of the codes that a mode makes.
+use Rattle.std.proofs.Common.{◌≡◌, ℕ, zero, suc, List, [], ◌∷◌, length, map, All, refl, ap, sym, ◌∙◌}
+use Rattle.std.proofs.Common.{arith, inr}
 use Rattle.std.proofs.lemmas.List.{length-map}
 use Rattle.std.specs.List.{AllZip}
-use Rattle.po_model.specs.declared.code.UnitCode.{UnitCode}
 use Rattle.po_model.specs.declared.machine.Machine.{Machine}
 use Rattle.po_model.specs.Blocks.{PlainBlock}
 use Rattle.po_model.specs.Combined.{combination}
 use Rattle.po_model.specs.Machines.{IsMachine}
 use Rattle.po_model.specs.Scanned.{AreSafe}
-use Rattle.po_model.specs.UnitCodes.{PlainUnit, unit_of, IsUnitCode, IsFormedCode}
+use Rattle.po_model.specs.UnitCodes.{PlainUnit, IsUnitCode}
 use Rattle.po_slow.specs.Passes.{IsSlowedUnit, KeepsForm}
 use Rattle.po_slow.proofs.KeptForm.{form_kept}
 use Rattle.po_slow.proofs.LivenessPasses.{keep_fit}
@@ -17,48 +16,7 @@ use Rattle.po_compile.specs.declared.mode.Mode.{Mode}
 use Rattle.po_compile.specs.declared.mode.Mode.TheVariants.{Naive, Slow, Opt}
 use Rattle.po_compile.specs.Modes.{IsCodeIn}
 use Rattle.po_compile.specs.Output.{AllFit}
-use Rattle.po_compile.specs.Steps.{units_of}
 use Rattle.po_compile.proofs.Each.{all_cons}
-use Rattle.po_compile.proofs.Written.{units_append}
-
--- the units so far went through all passes, and these are left
-pub record IsSlowing (mode : Mode) (m : Machine) (codes rest made : List UnitCode) : Type 0 where
-  pub formed : All IsUnitCode (units_of rest)
-  pub slowed : (vs : List PlainUnit) → AllZip (IsCodeIn mode m) (units_of rest) vs
-      → AllZip (IsCodeIn mode m) (units_of codes) (units_of made ++ vs)
-
-pub slowing_begin : (mode : Mode) (m : Machine) (codes rest made : List UnitCode) → rest ≡ codes → made ≡ []
-    → All IsUnitCode (units_of codes) → IsSlowing mode m codes rest made
-slowing_begin mode m codes rest made e n formed = rw (e, n) (record { formed = formed; slowed = λ vs z. z })
-
-pub first_code : (mode : Mode) (m : Machine) (codes rest more made : List UnitCode) (x : UnitCode)
-    → IsSlowing mode m codes rest made
-    → rest ≡ x ∷ more → IsFormedCode (unit_of x).code
-first_code mode m codes rest more made x h e =
-    let first : IsUnitCode (unit_of x) = (subst (λ (r : List UnitCode). All IsUnitCode (units_of r)) e h.formed) zero
-    (unit_of x) (omega arith) in
-    first.placeable.form
-
-pub slowing_next : (mode : Mode) (m : Machine) (codes rest more made more_made : List UnitCode) (x y : UnitCode)
-    → IsSlowing mode m codes rest made → rest ≡ x ∷ more → more_made ≡ made ++ y ∷ []
-    → IsCodeIn mode m (unit_of x) (unit_of y) → IsSlowing mode m codes more more_made
-slowing_next mode m codes rest more made more_made x y h e f made_so =
-    let here : IsSlowing mode m codes (x ∷ more) made =
-    subst (λ (r : List UnitCode). IsSlowing mode m codes r made) e h in
-    rw f (record {
-      formed = λ k d b. here.formed (suc k) d (omega arith);
-      slowed = λ vs z. rw (units_append made y, append_assoc) (here.slowed (unit_of y ∷ vs) (made_so, z));
-    })
-
-pub slowing_end : (mode : Mode) (m : Machine) (codes rest made : List UnitCode) → IsSlowing mode m codes rest made
-    → rest ≡ []
-    → AllZip (IsCodeIn mode m) (units_of codes) (units_of made)
-slowing_end mode m codes rest made h e =
-    let here : IsSlowing mode m codes [] made = subst (λ (r : List UnitCode). IsSlowing mode m codes r made) e h in
-    subst (λ (vs : List PlainUnit). AllZip (IsCodeIn mode m) (units_of codes) vs) (append-nil (units_of made))
-    (here.slowed [] tt)
-
--- What is so of each code that a mode makes
 
 zip_all : {A : Type 0} (R : A → A → Type 0) (P Q : A → Type 0) (us vs : List A) → ((u v : A) → R u v → P u → Q v)
     → AllZip R us vs → All P us → All Q vs
@@ -76,7 +34,7 @@ zip_zip R S P (u ∷ us) [] f z ps = absurd z
 zip_zip R S P (u ∷ us) (v ∷ vs) f z ps =
     (f u v z.0 (ps zero u (omega arith)), zip_zip R S P us vs f z.1 (λ k d h. ps (suc k) d (omega arith)))
 
-zip_length : {A : Type 0} (R : A → A → Type 0) (us vs : List A) → AllZip R us vs → length vs ≡ length us
+pub zip_length : {A : Type 0} (R : A → A → Type 0) (us vs : List A) → AllZip R us vs → length vs ≡ length us
 zip_length R [] [] z = refl
 zip_length R [] (v ∷ vs) z = absurd z
 zip_length R (u ∷ us) [] z = absurd z
@@ -85,14 +43,6 @@ zip_length R (u ∷ us) (v ∷ vs) z = ap suc (zip_length R us vs z.1)
 zip_refl : {A : Type 0} (R : A → A → Type 0) (us : List A) → ((u : A) → R u u) → AllZip R us us
 zip_refl R [] f = tt
 zip_refl R (u ∷ us) f = (f u, zip_refl R us f)
-
-pub made_count : (mode : Mode) (m : Machine) (codes made : List UnitCode)
-    → AllZip (IsCodeIn mode m) (units_of codes) (units_of made) → length made ≡ length codes
-made_count mode m codes made z = sym (length-map made unit_of)
-    ∙ zip_length (IsCodeIn mode m) (units_of codes) (units_of made) z ∙ length-map codes unit_of
-
-pub naive_stays : (m : Machine) (us : List PlainUnit) → AllZip (IsCodeIn Naive m) us us
-naive_stays m us = zip_refl (IsCodeIn Naive m) us (λ u. refl)
 
 -- slow combination is safe
 pub combination_safe : (m : Machine) → AreSafe m (combination m)
@@ -120,7 +70,7 @@ slowed_formed m u v tries is s h =
       named = rw (labels, syms) (keeps.named (length u.labels) (length u.syms) h.named);
     }
 
-code_formed : (mode : Mode) (m : Machine) (u v : PlainUnit) → IsMachine m → IsCodeIn mode m u v → IsUnitCode u
+pub code_formed : (mode : Mode) (m : Machine) (u v : PlainUnit) → IsMachine m → IsCodeIn mode m u v → IsUnitCode u
     → IsUnitCode v
 code_formed Naive m u v is same h = rw same h
 code_formed Slow m u v is slowed h = slowed_formed m u v slowed.0 is slowed.1 h

@@ -6,3 +6,4 @@ pub mod Output
 pub mod Begun
 pub mod Statuses
 pub mod Steps
+pub mod Turns

@@ -8,12 +8,9 @@ use Rattle.po_model.specs.UnitCodes.{PlainUnit, unit_of, flat}
 use Rattle.po_model.specs.Placement.{registers}
 use Rattle.po_model.specs.Fitted.{IsUnrecognised}
 use Rattle.po_assign.specs.declared.answer.Placed.{Placed}
-use Rattle.po_compile.specs.declared.compiled.Compiled.{Compiled}
 use Rattle.po_compile.specs.declared.refusal.Refusal.{Refusal}
 use Rattle.po_compile.specs.declared.refusal.Refusal.TheVariants as refusal
-use Rattle.po_compile.specs.Input.{Program}
-use Rattle.po_compile.specs.declared.mode.Mode.{Mode}
-use Rattle.po_compile.specs.Output.{FirstBad, AllFit, HasRoom, IsShort, IsOutputOf, IsCrowdOf, naive_codes}
+use Rattle.po_compile.specs.Output.{FirstBad, AllFit, HasRoom, IsShort}
 
 abbrev pub units_of : List UnitCode → List PlainUnit
 units_of codes = map unit_of codes

@@ -1,5 +1,5 @@
-//! From the codes that a mode makes to the assembly, and the whole way in the modes that learn no rule. All units
-//! pass a step before the next one begins.
+//! From the codes that a mode makes to the assembly, where all units pass a step before the next one begins; and the
+//! whole way in the modes that learn no rule, one unit after the other.
 
 ghost use Rattle.std.specs.Prelude.{ℕ, ◌≡◌, ◌≤◌, ◌++◌, List, All, length, IfOk};
 ghost use Rattle.std.specs.Arc.{arc_value};
@@ -9,23 +9,28 @@ ghost use Rattle.po_model.specs.UnitCodes.{PlainUnit, IsUnitCode};
 ghost use Rattle.po_recog.specs.Indexes.{IsIndexOf};
 ghost use Rattle.po_compile.specs.declared.mode.Mode.{Mode};
 ghost use Rattle.po_compile.specs.Begun.{IsBegun};
+ghost use Rattle.po_compile.specs.Input.{IsInput, IsProgram};
 ghost use Rattle.po_compile.specs.Modes.{mode_alone, IsCodeIn};
 ghost use Rattle.po_compile.specs.Output.{AreAssembled};
 ghost use Rattle.po_compile.specs.Rules.{AreRulesIn};
 ghost use Rattle.po_compile.specs.Statuses.{Compiles};
 ghost use Rattle.po_compile.specs.Steps.{ArePlaced, placed_of, units_of};
+ghost use Rattle.po_compile.specs.Turns.{Outcome};
 
-use crate::alone::make_alone;
-use crate::begun::{Begun, begin};
+use crate::alone::assemble;
 use crate::compiled::Compiled;
+use crate::input::{Program, read_input};
 use crate::made::Made;
 use crate::mode::Alone;
 use crate::refusal::Refusal;
+use crate::target::Target;
 use crate::units::{assign_all, emit_all};
+use crate::work::{Crowd, Work};
 use po_assign::Placed;
 use po_model::Machine;
 use po_recog::Index;
 use po_termtext::push;
+use po_text::TextRefusal;
 use po_word::OutOfMemory;
 use std::alloc::Global;
 
@@ -76,19 +81,52 @@ pub fn finish<T: Drop>(
     Ok(Compiled { out, told })
 }
 
+/// What the work on all units gives: the output, or the first crowd.
+#[tactic(auto, using(crate::proofs::Turning::answered_none, crate::proofs::Turning::answered_some))]
+fn outcome(work: Work) -> Result<Compiled<()>, Refusal>
+    ensures { Outcome work result }
+{
+    match work.crowd {
+        None => Ok(Compiled {
+            out: work.out,
+            told: (),
+        }),
+        Some(
+            Crowd {
+                unit,
+                point,
+                needed,
+            },
+        ) => Err(Refusal::TooFew {
+            unit,
+            point,
+            needed,
+        }),
+    }
+}
+
+/// The output of a program, in a mode that learns no rule.
+fn assembled(alloc: Global, alone: Alone, program: Program) -> Result<Compiled<()>, Refusal>
+    requires { IsProgram program }
+    ensures { (text : List ℕ) → IsInput text program.machine program.units
+        → Compiles (mode_alone alone) text result }
+{
+    let Program { machine, units } = program;
+    let target = Target::new(alloc, machine)?;
+    match assemble(alloc, alone, &target, units.as_slice()) {
+        Ok(work) => outcome(work),
+        Err(refusal) => Err(refusal),
+    }
+}
+
 /// The output for a text, in a mode that learns no rule, or the first cause that there is none (docs/PROGRAM.md,
 /// "Statuses").
 pub fn compile(alloc: Global, alone: Alone, text: &[u8]) -> Result<Compiled<()>, Refusal>
     ensures { Compiles (mode_alone alone) text.now result }
 {
-    let Begun {
-        machine,
-        index,
-        codes,
-    } = match begin(alloc, text) {
-        Ok(begun) => begun,
-        Err(refusal) => return Err(refusal),
-    };
-    let made = make_alone(alloc, alone, &machine, &index, codes)?;
-    finish(alloc, &machine, &index, made)
+    match read_input(alloc, text) {
+        Ok(program) => assembled(alloc, alone, program),
+        Err(TextRefusal::BadText { line, col, kind }) => Err(Refusal::BadText { line, col, kind }),
+        Err(TextRefusal::OutOfMemory) => Err(Refusal::OutOfMemory),
+    }
 }

@@ -1,11 +1,13 @@
 //! From a text to its assembly, in any mode, with a status for each way that this can end.
 //!
-//! `input` reads the text, `units` takes all units through one step each, `begun` has the naive codes of a text,
-//! `alone` makes what is placed in the modes that learn no rule (`slow`: all passes over each unit), `compile` makes
-//! assembly of what a mode made, and `streams` goes from a source to a sink. `laws` says that a mode makes one code,
-//! that a text has one output, and that placed code runs as the code. The definitions that these cite stand in
-//! specs/: `Modes`, `Rules` (what stands behind the assembly), `Input` (what a text says), `Begun`, `Output` (what it
-//! compiles to, and why it doesn't), `Runs` (what the output does), `Statuses`.
+//! `input` reads the text. In the modes that learn no rule `alone` takes one unit after the other from its operations
+//! to its assembly, by what `target` makes once of the machine; `work` is what has become of the units so far. For
+//! `opt` `units` takes all units through one step each, and `begun` has the naive codes of a text. `compile` makes
+//! assembly of what a mode made, and goes the whole way for the modes that learn no rule; `streams` goes from a source
+//! to a sink. `laws` says that a mode makes one code, that a text has one output, and that placed code runs as the
+//! code. The definitions that these cite stand in specs/: `Modes`, `Rules` (what stands behind the assembly), `Input`
+//! (what a text says), `Begun`, `Turns` (the units so far), `Output` (what it compiles to, and why it doesn't), `Runs`
+//! (what the output does), `Statuses`.
 #![tactic(auto)]
 
 mod alone;
@@ -17,10 +19,11 @@ mod laws;
 mod made;
 mod mode;
 mod refusal;
-mod slow;
 mod status;
 mod streams;
+mod target;
 mod units;
+mod work;
 
 pub use begun::{Begun, begin};
 pub use compile::finish;

@@ -1,4 +1,4 @@
-use Rattle.std.proofs.Common.{◌≡◌, ◌<◌, ◌≤◌, ◌∙◌, All, length, ap, sym, subst, arith}
+use Rattle.std.proofs.Common.{◌≡◌, ◌≤◌, All, length, ap, subst, arith}
 use Rattle.po_compile.specs.Output.{AllFit}
 use Rattle.po_compile.specs.Steps.{units_of}
 use Rattle.po_compile.proofs.Assembled.{count_of}

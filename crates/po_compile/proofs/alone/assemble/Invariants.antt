@@ -1,0 +1,4 @@
+use Rattle.po_compile.proofs.alone.assemble.Given as goal
+
+abbrev pub ghosts-take_all : goal.ghosts-take_all
+ghosts-take_all a = record { name = a.ledger.name; parts = a.ledger.parts }
