@@ -1,6 +1,6 @@
-//! Tests of rules, as tables: the shapes of pairs and what stands at their holes, values put into results, copies, and
-//! the texts of rules, a module for each. Instructions stand in them as texts, which `texts` reads, and what has no
-//! reader is put together by `written`.
+//! Tests of rules, as tables: the shapes of pairs, their words, and what stands at their holes, values put into
+//! results, copies, and the texts of rules, a module for each. Instructions stand in them as texts, which `texts`
+//! reads, and what has no reader is put together by `written`.
 #![tactic(auto)]
 
 #[cfg(test)]
@@ -15,5 +15,7 @@ mod put;
 mod shape;
 #[cfg(test)]
 mod texts;
+#[cfg(test)]
+mod words;
 #[cfg(test)]
 mod written;

@@ -13,7 +13,7 @@ use po_model::{Live, PReg, Values};
 use po_term::{Reg, Sym};
 use po_word::OutOfMemory;
 
-/// The registers other than virtual ones that a pair may set.
+/// The registers other than virtual ones that a pair may set (docs/RULES.md, "Shapes").
 pub const SETTABLE: [Reg; 5] = [Reg::Rv, Reg::Arg(0), Reg::Arg(1), Reg::Arg(2), Reg::Arg(3)];
 
 /// The place of a register among those that were met, and their number where it isn't there.
@@ -60,7 +60,7 @@ pub fn hole_symbol(v: &Values, s: Sym) -> u16
     place_of_symbol(&v.syms, s)
 }
 
-/// Whether the register is live.
+/// Whether the register is live (docs/RULES.md, "Shapes").
 pub fn lives(live: &Live, r: Reg) -> bool
     ensures { result ≡ is_live live.now r }
 {

@@ -29,6 +29,7 @@ fn is_one_symbol(s: Sym, t: Sym) -> bool
     s.0 == t.0
 }
 
+/// Where a register stands among those that were met, and None where it wasn't met (docs/RULES.md, "Shapes").
 pub fn find(regs: &[Reg], r: Reg) -> Option<usize>
     ensures { result ≡ position_from (reg_eq r) 0 regs.now }
 {
@@ -41,7 +42,8 @@ pub fn find_symbol(syms: &[Sym], s: Sym) -> Option<usize>
     syms.iter().position(|t| is_one_symbol(s, *t))
 }
 
-/// The place of the virtual register n among those that were met. It is added behind them where it wasn't met.
+/// The place of the virtual register n among those that were met. It is added behind them where it wasn't met
+/// (docs/RULES.md, "Shapes"). It fails only where memory is refused.
 pub fn place_register(v: &mut Values, n: u32) -> Result<usize, OutOfMemory>
     ensures values { OnOk result (values_of v.new ≡ meet_register (values_of v.old) (Virt n)) }
     ensures place { IfOk result
@@ -57,7 +59,8 @@ pub fn place_register(v: &mut Values, n: u32) -> Result<usize, OutOfMemory>
     }
 }
 
-/// The place of a symbol among those that were met. It is added behind them where it wasn't met.
+/// The place of a symbol among those that were met. It is added behind them where it wasn't met (docs/RULES.md,
+/// "Shapes"). It fails only where memory is refused.
 pub fn place_symbol(v: &mut Values, s: Sym) -> Result<usize, OutOfMemory>
     ensures values { OnOk result (values_of v.new ≡ meet_symbol (values_of v.old) s) }
     ensures place { IfOk result (λ k. k ≡ position_or_len (sym_eq s) (meet_symbol (values_of v.old) s).syms) }
@@ -161,7 +164,7 @@ fn meet_transfers(v: &mut Values, xs: &[Transfer]) -> Result<(), OutOfMemory>
     Ok(())
 }
 
-/// The start of a walk.
+/// The start of a walk: nothing was met (docs/RULES.md, "What stands at the holes").
 pub fn nothing_met(alloc: Global) -> Values
     ensures { values_of result ≡ nothing_met }
 {
