@@ -1,12 +1,12 @@
 -- The marks of a code as a block of it is written, cut or left.
-use Rattle.std.proofs.Common.{◌≡◌, ◌≢◌, ℕ, zero, suc, ◌+◌, ◌<◌, ◌≤◌, List, [], ◌∷◌, length, map, take, set, get_or}
-use Rattle.std.proofs.Common.{Option, Some, None, Bool, refl, sym, ◌∙◌, ap, subst, arith, inl, inr, ◌++◌}
+use Rattle.std.proofs.Common.{◌≡◌, ◌≢◌, ℕ, zero, suc, ◌<◌, ◌≤◌, List, [], ◌∷◌, length, map, take, set, get_or}
+use Rattle.std.proofs.Common.{Option, None, Bool, refl, sym, ◌∙◌, ap, subst, arith, inl, inr, ◌++◌}
 use Rattle.std.specs.Global.{Vec}
 use Rattle.std.specs.Vec.{with_items}
 use Rattle.std.proofs.lemmas.Bool.{cases_eq}
 use Rattle.std.proofs.lemmas.List.{length-map, with_items_is}
 use Rattle.po_term.specs.declared.transfer.Instr.{Instr}
-use Rattle.po_term.specs.Moves.{instr_of, instrs_of, PlainInstr}
+use Rattle.po_term.specs.Moves.{instrs_of, PlainInstr}
 use Rattle.po_model.specs.declared.code.Block.{Block}
 use Rattle.po_model.specs.declared.machine.Machine.{Machine}
 use Rattle.po_model.specs.Blocks.{PlainBlock, block_of, instrs_at}

@@ -3,7 +3,7 @@
 -- Beside each instruction of a block stands a mark or none. A mark says that the instruction and the one before it are
 -- a pair that stays, as long as of their targets is live what the mark says. The mark of the next instruction is of
 -- the pair that is ready.
-use Rattle.std.specs.Prelude.{ℕ, zero, suc, ◌≡◌, ◌≢◌, ◌≤◌, ◌<◌, ◌+◌, ◌-◌, ◌==◌, Bool, true, false, if◌then◌else◌}
+use Rattle.std.specs.Prelude.{ℕ, zero, suc, ◌≡◌, ◌≢◌, ◌≤◌, ◌<◌, ◌+◌, ◌-◌, Bool, true, if◌then◌else◌}
 use Rattle.std.specs.Prelude.{List, [], ◌∷◌, length, get_or, Option, Some, None, ⊤, not}
 use Rattle.std.specs.Global.{Vec}
 use Rattle.std.specs.List.{list_all}

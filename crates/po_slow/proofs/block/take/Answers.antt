@@ -1,4 +1,3 @@
-use Rattle.std.proofs.Common.{sym}
 use Rattle.po_slow.proofs.MarksHere.{take_moved, marks_moved}
 use Rattle.po_slow.proofs.block.take.Goals as goal
 

@@ -1,4 +1,3 @@
-use Rattle.std.proofs.Common.{arith}
 use Rattle.po_live.specs.Parts.{live_in, tells}
 use Rattle.po_slow.proofs.MarksHere.{fits_there}
 use Rattle.po_slow.proofs.ready.mark_here.Goals as goal
