@@ -136,7 +136,8 @@ module _ (m : Machine) (xs : List PlainInstr) (ks : List (Option Mark)) (done ne
       ls : List (Option Mark)
       ls = set (set ks next None) (next + 1) None
 
-      ahead : (i : ℕ) → next ≤ i → i + 1 < length ys → Says m (get_or ys i []) (get_or ys (i + 1) []) (get_or ls (i + 1) None)
+      ahead : (i : ℕ) → next ≤ i → i + 1 < length ys
+          → Says m (get_or ys i []) (get_or ys (i + 1) []) (get_or ls (i + 1) None)
       ahead i le h =
           elim (cases_eq next i) [
             | inl e ↦
@@ -164,7 +165,8 @@ module _ (m : Machine) (xs : List PlainInstr) (ks : List (Option Mark)) (done ne
         (other ks done (next + 1) mark None (λ e. absurd (omega (arith, e, o))))
         (t.ahead next (omega arith) (omega (arith, g, len)));
     ahead = λ i le g. says_same m _ _ _ _ _ _
-        (other_two xs next done i left x [] (λ e. absurd (omega (arith, e, le))) (λ e. absurd (omega (arith, e, le, o))))
+        (other_two xs next done i left x [] (λ e. absurd (omega (arith, e, le)))
+        (λ e. absurd (omega (arith, e, le, o))))
         (other_two xs next done (i + 1) left x [] (λ e. absurd (omega (arith, e, le)))
         (λ e. absurd (omega (arith, e, le, o))))
         (other ks done (i + 1) mark None (λ e. absurd (omega (arith, e, le, o))))

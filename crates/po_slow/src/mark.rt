@@ -1,6 +1,6 @@
 //! The marks of the pairs that stayed (docs/OPTIMISER.md, "Marks").
-ghost use Rattle.std.specs.Prelude.{ℕ, ◌≡◌, true, not, if◌then◌else◌, length, get_or, Some, None, slice_set, IsTrue, IfSome};
-ghost use Rattle.std.specs.Prelude.{IfOk, OnOk, ◌++◌, ◌∷◌, []};
+ghost use Rattle.std.specs.Prelude.{ℕ, ◌≡◌, true, not, if◌then◌else◌, length, get_or, Some, None, slice_set, IsTrue};
+ghost use Rattle.std.specs.Prelude.{IfSome, IfOk, OnOk, ◌++◌, ◌∷◌, []};
 ghost use Rattle.std.specs.List.{list_all};
 ghost use Rattle.po_term.specs.Moves.{move_of, instr_of};
 ghost use Rattle.po_live.specs.Parts.{live_in};

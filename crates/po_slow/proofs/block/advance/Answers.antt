@@ -13,8 +13,8 @@ returns-then-is_dead-clause-onward c =
     let dead = ap (λ live. is_dead live (instr_of c.index-xs-at.result)) (sym l)
     ∙ (ap (λ x. is_dead (live_in c.at.result) (instr_of x)) c.index-xs-at.is
     ∙ (sym c.is_dead.ensures ∙ c.if-is_dead.true)) in
-    rw c.skip.ensures.at (dead_stand (tells c.args.lives.now c.args.b) c.args.xs.now c.index-xs-at.result at.done at.next
-    at.changed (omega arith) c.index-xs-at.is dead)
+    rw c.skip.ensures.at (dead_stand (tells c.args.lives.now c.args.b) c.args.xs.now c.index-xs-at.result at.done
+    at.next at.changed (omega arith) c.index-xs-at.is dead)
 
 pub returns-then-at-eq0-clause-onward : goal.returns-then-at-eq0-clause-onward
 returns-then-at-eq0-clause-onward c =

@@ -35,9 +35,9 @@ returns-clause-placed c =
 pub returns-clause-marks : goal.returns-clause-marks
 returns-clause-marks c = λ m t.
     let at = c.args.at.now in
-    true_written c.args.blocks.now c.args.marks.now c.args.b c.index-blocks-b.result c.index-marks-b.result c.requires.block
-    c.requires.beside c.deref_mut.result.now c.deref_mut-2.result.now c.deref_mut.ensures.value
-    c.deref_mut-2.ensures.value m c.go_on.new.xs c.go_on.new.marks at c.go_on.new.at c.go_on.auto.xs c.go_on.auto.marks t
-    (c.go_on.ensures.marks m (true_here c.args.blocks.now c.args.marks.now c.args.b c.index-blocks-b.result
+    true_written c.args.blocks.now c.args.marks.now c.args.b c.index-blocks-b.result c.index-marks-b.result
+    c.requires.block c.requires.beside c.deref_mut.result.now c.deref_mut-2.result.now c.deref_mut.ensures.value
+    c.deref_mut-2.ensures.value m c.go_on.new.xs c.go_on.new.marks at c.go_on.new.at c.go_on.auto.xs
+    c.go_on.auto.marks t (c.go_on.ensures.marks m (true_here c.args.blocks.now c.args.marks.now c.args.b c.index-blocks-b.result
     c.index-marks-b.result c.requires.block c.requires.beside c.deref_mut.result.now c.deref_mut-2.result.now
     c.deref_mut.ensures.value c.deref_mut-2.ensures.value m at t))

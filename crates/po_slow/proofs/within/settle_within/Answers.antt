@@ -45,7 +45,7 @@ returns-clause-marks c = λ m t.
     omega (arith, c.requires.ready.block, length-map c.args.blocks.now block_of) in
     true_written c.args.blocks.now c.args.marks.now c.args.b c.index-blocks-b.result c.index-marks-b.result block
     c.requires.beside c.deref_mut.result.now c.deref_mut-2.result.now c.deref_mut.ensures.value
-    c.deref_mut-2.ensures.value m c.settle.new.xs c.settle.new.marks at c.settle.new.at c.settle.auto.xs c.settle.auto.marks t
-    (c.settle.ensures.marks m (λ e. tt) (true_here c.args.blocks.now c.args.marks.now c.args.b c.index-blocks-b.result
+    c.deref_mut-2.ensures.value m c.settle.new.xs c.settle.new.marks at c.settle.new.at c.settle.auto.xs
+    c.settle.auto.marks t (c.settle.ensures.marks m (λ e. tt) (true_here c.args.blocks.now c.args.marks.now c.args.b c.index-blocks-b.result
     c.index-marks-b.result block c.requires.beside c.deref_mut.result.now c.deref_mut-2.result.now
     c.deref_mut.ensures.value c.deref_mut-2.ensures.value m at t))

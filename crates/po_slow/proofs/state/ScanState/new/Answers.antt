@@ -19,7 +19,7 @@ returns-clause-formed c =
 pub enter-requires-clause-beside : goal.enter-requires-clause-beside
 enter-requires-clause-beside c =
     c.in_ok-marks.ensures.len
-    ∙ (ap length c.deref.ensures.value ∙ sym (length-map c.args.code.blocks.items block_of))
+    ∙ (ap length c.deref.ensures.value ∙ sym (length-map _ block_of))
 
 pub returns-clause-marks : goal.returns-clause-marks
 returns-clause-marks c = λ m.
