@@ -13,6 +13,10 @@ pub mod Dead
 pub mod Places
 pub mod Written
 pub mod Standing
+-- The marks of the pairs that stayed
+pub mod Marks
+pub mod MarksHere
+pub mod MarksWritten
 pub mod Passing
 pub mod Steps
 pub mod Work

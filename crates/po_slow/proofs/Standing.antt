@@ -1,7 +1,7 @@
 -- How the place of the scan of a block moves as instructions are written and counted.
 use Rattle.std.proofs.Common.{◌≡◌, ℕ, ◌+◌, ◌-◌, ◌<◌, ◌≤◌, Bool, true, false, List, [], ◌∷◌, length, reverse, take}
 use Rattle.std.proofs.Common.{drop, set, get_or, Some, refl, sym, ◌∙◌, ap, arith, add-one}
-use Rattle.std.proofs.lemmas.List.{length-set, length-map, map-set, set-set, set_comm, set-get_or, get_or-set_other}
+use Rattle.std.proofs.lemmas.List.{length-set, length-map, map-set}
 use Rattle.std.proofs.lemmas.List.{take-set-le, take_more_set, take_more, drop-set-lt, drop-set, drop_more, get_or-map}
 use Rattle.std.proofs.lemmas.List.{get_or_default, reverse-append}
 use Rattle.po_term.specs.declared.term.Reg.{Reg as Register}

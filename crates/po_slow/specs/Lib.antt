@@ -4,3 +4,4 @@ pub mod Passes
 pub mod States
 pub mod Dead
 pub mod Steps
+pub mod Marks

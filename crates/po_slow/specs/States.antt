@@ -172,3 +172,5 @@ StandsAs code lives b at stage.Over = length code ≤ b
 pub record IsFormedState (s : ScanState) : Type 0 where
   pub placed : IsPlaced (code_of s.code) s.lives s.block s.at
   pub formed : IsFormedScan (scan_of s)
+  -- each block has its marks
+  pub beside : length s.marks.items ≡ length (code_of s.code)

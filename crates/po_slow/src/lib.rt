@@ -3,8 +3,8 @@
 //!
 //! `pair` answers for one pair: the two are joined (`po_subst`), and the joint list has to fit an entry of the
 //! machine (`po_recog`). `live` says what is live of what instructions set; `block` goes on within a block, in the
-//! block's own memory; `ready` tries the pair that is ready there; `within` does both in a block of a code; `state`
-//! goes from block to block and from pass to pass; `unit` makes all passes.
+//! block's own memory; `mark` says which pairs stayed; `ready` tries the pair that is ready there; `within` does both
+//! in a block of a code; `state` goes from block to block and from pass to pass; `unit` makes all passes.
 //!
 //! Its tests stand in `po_code_rows`.
 #![tactic(auto)]
@@ -12,6 +12,7 @@
 mod block;
 mod laws;
 mod live;
+mod mark;
 mod pair;
 mod ready;
 mod state;

@@ -2,14 +2,17 @@
 ghost use Rattle.std.specs.Prelude.{◌≡◌, ◌<◌, ◌+◌, ◌↔◌, length, true, IsTrue, IfOk, OnOk, OnErr};
 ghost use Rattle.po_model.specs.Blocks.{code_of};
 ghost use Rattle.po_model.specs.Combined.{combination_of};
+ghost use Rattle.po_model.specs.declared.machine.Machine.{Machine};
 ghost use Rattle.po_model.specs.Machines.{IsMachine};
 ghost use Rattle.po_model.specs.Scanned.{Finished, IsPassStart, IsAtEnd, AfterEnd, pair_ready, after_try};
 ghost use Rattle.po_recog.specs.Indexes.{IsIndexOf};
 ghost use Rattle.po_slow.specs.States.{scan_of, enter_at, Asks, CanAnswer, StandsAs, HasPair, IsFinished, IsCut};
 ghost use Rattle.po_slow.specs.States.{IsPlaced, IsTried, IsFormedState};
+ghost use Rattle.po_slow.specs.Marks.{AreMarked};
 ghost use Rattle.po_model.specs.UnitCodes.{IsFormedCode};
 
 use crate::block::{Stage, Standing};
+use crate::mark::{Mark, no_marks};
 use crate::within::{copy_within, cut_within, go_on_within, settle_within, stage, try_within};
 use po_live::{LiveList, live_list};
 use po_model::{Code, Machine, Outcome, Pair, Steps};
@@ -41,6 +44,7 @@ const START: Standing = Standing {
 pub struct ScanState {
     code: Code,
     lives: LiveList,
+    marks: Vec<Vec<Option<Mark>>>,
     block: usize,
     at: Standing,
 }
@@ -52,11 +56,14 @@ impl ScanState {
         requires { IsFormedCode (code_of code) }
         ensures starts { IfOk result (λ s. IsPassStart (code_of code) (scan_of s)) }
         ensures formed { IfOk result IsFormedState }
+        ensures marks { IfOk result (λ s. (m : Machine) → AreMarked m s) }
     {
         let lives = live_list(alloc, &code)?;
+        let marks = no_marks(alloc, &code.blocks)?;
         let mut s = ScanState {
             code,
             lives,
+            marks,
             block: 0,
             at: START,
         };
@@ -84,6 +91,7 @@ impl ScanState {
         ensures goes_on { OnOk result (AfterEnd (scan_of self.old) (scan_of self.new)) }
         ensures unchanged { OnErr result (scan_of self.new ≡ scan_of self.old) }
         ensures formed { IsFormedState self.new }
+        ensures marks { OnOk result ((m : Machine) → AreMarked m self.old → AreMarked m self.new) }
     {
         self.close();
         self.leave(alloc)
@@ -127,18 +135,22 @@ impl ScanState {
     fn enter(&mut self, alloc: Global)
         requires placed { IsPlaced (code_of self.old.code) self.old.lives self.old.block self.old.at }
         requires start { (self.old.at.done ≡ 0) × (self.old.at.next ≡ 0) }
+        requires beside { length self.old.marks.items ≡ length (code_of self.old.code) }
         ensures scan { scan_of self.new
             ≡ enter_at (code_of self.old.code) self.old.lives self.old.block self.old.at.changed }
         ensures placed { IsPlaced (code_of self.new.code) self.new.lives self.new.block self.new.at }
+        ensures beside { length self.new.marks.items ≡ length (code_of self.new.code) }
+        ensures marks { (m : Machine) → AreMarked m self.old → AreMarked m self.new }
     {
         let ScanState {
             code,
             lives,
+            marks,
             block,
             at,
         } = self;
         if *block < code.blocks.len() {
-            go_on_within(alloc, &mut code.blocks, lives, *block, at);
+            go_on_within(alloc, &mut code.blocks, marks, lives, *block, at);
         }
     }
 
@@ -149,10 +161,12 @@ impl ScanState {
         ensures same { scan_of self.new ≡ scan_of self.old }
         ensures formed { IsFormedState self.new }
         ensures closed { IsCut (code_of self.new.code) self.new.block self.new.at }
+        ensures marks { (m : Machine) → AreMarked m self.old → AreMarked m self.new }
     {
         let ScanState {
             code,
             lives: _,
+            marks: _,
             block,
             at,
         } = self;
@@ -167,6 +181,7 @@ impl ScanState {
         ensures goes_on { OnOk result (AfterEnd (scan_of self.old) (scan_of self.new)) }
         ensures unchanged { OnErr result (scan_of self.new ≡ scan_of self.old) }
         ensures formed { IsFormedState self.new }
+        ensures marks { OnOk result ((m : Machine) → AreMarked m self.old → AreMarked m self.new) }
     {
         if self.at.changed && self.block + 1 == self.code.blocks.len() {
             self.start_pass(alloc)
@@ -183,6 +198,7 @@ impl ScanState {
         requires same_pass { self.old.at.changed ≡ true → self.old.block + 1 < length (code_of self.old.code) }
         ensures goes_on { AfterEnd (scan_of self.old) (scan_of self.new) }
         ensures formed { IsFormedState self.new }
+        ensures marks { (m : Machine) → AreMarked m self.old → AreMarked m self.new }
     {
         self.block += 1;
         self.at.done = 0;
@@ -199,6 +215,7 @@ impl ScanState {
         ensures goes_on { OnOk result (AfterEnd (scan_of self.old) (scan_of self.new)) }
         ensures unchanged { OnErr result (scan_of self.new ≡ scan_of self.old) }
         ensures formed { IsFormedState self.new }
+        ensures marks { OnOk result ((m : Machine) → AreMarked m self.old → AreMarked m self.new) }
     {
         self.lives = live_list(alloc, &self.code)?;
         self.block = 0;
@@ -218,10 +235,11 @@ impl ScanState {
         let ScanState {
             code,
             lives,
+            marks,
             block,
             at,
         } = self;
-        settle_within(alloc, &mut code.blocks, lives, *block, at, o);
+        settle_within(alloc, &mut code.blocks, marks, lives, *block, at, o);
     }
 
     /// Tries the pair that is ready, and goes on from it. A step is counted.
@@ -236,17 +254,30 @@ impl ScanState {
         requires index { IsIndexOf m.now index.now }
         requires formed { IsFormedState self.old }
         requires ready { HasPair (code_of self.old.code) self.old.block self.old.at }
+        requires marks { AreMarked m.now self.old }
         ensures tried { OnOk result (IsTried m.now (scan_of self.old) (scan_of self.new)) }
         ensures formed { OnOk result (IsFormedState self.new) }
+        ensures marks { OnOk result (AreMarked m.now self.new) }
         ensures counted { OnOk result (steps.new ≡ steps.old + 1) }
     {
         let ScanState {
             code,
             lives,
+            marks,
             block,
             at,
         } = self;
-        try_within(alloc, m, index, &mut code.blocks, lives, *block, at, steps)
+        try_within(
+            alloc,
+            m,
+            index,
+            &mut code.blocks,
+            marks,
+            lives,
+            *block,
+            at,
+            steps,
+        )
     }
 }
 

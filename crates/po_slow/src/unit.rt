@@ -6,6 +6,7 @@ ghost use Rattle.po_model.specs.UnitCodes.{unit_of, IsFormedCode};
 ghost use Rattle.po_recog.specs.Indexes.{IsIndexOf};
 ghost use Rattle.po_slow.specs.Passes.{IsSlowedUnit};
 ghost use Rattle.po_slow.specs.States.{scan_of, IsFormedState};
+ghost use Rattle.po_slow.specs.Marks.{AreMarked};
 ghost use Rattle.po_slow.specs.Steps.{IsStepOn, IsSlowedWith};
 
 use crate::block::Stage;
@@ -27,8 +28,10 @@ fn step<L: Ledger>(
     requires machine { IsMachine m.now }
     requires index { IsIndexOf m.now index.now }
     requires formed { IsFormedState s.old }
+    requires marks { AreMarked m.now s.old }
     ensures steps { IfOk result (IsStepOn m.now (scan_of s.old) (scan_of s.new) steps.old steps.new) }
     ensures formed { OnOk result (IsFormedState s.new) }
+    ensures marks { OnOk result (AreMarked m.now s.new) }
 {
     match s.stage() {
         Stage::Ready => {

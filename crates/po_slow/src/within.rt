@@ -4,10 +4,13 @@ ghost use Rattle.po_model.specs.Blocks.{block_of};
 ghost use Rattle.po_model.specs.Pairs.{pair_of};
 ghost use Rattle.po_model.specs.Combined.{combination_of};
 ghost use Rattle.po_model.specs.Scanned.{onward, pair_ready, after_try};
+ghost use Rattle.po_model.specs.declared.machine.Machine.{Machine};
 ghost use Rattle.po_recog.specs.Indexes.{IsIndexOf};
 ghost use Rattle.po_slow.specs.States.{scan_by, within, on, cut, IsPlaced, IsFormedScan, HasPair, IsTried, StandsAs};
+ghost use Rattle.po_slow.specs.Marks.{AllTrue};
 
 use crate::block::{Stage, Standing, go_on, settle};
+use crate::mark::Mark;
 use crate::ready::{copy_pair, try_pair};
 use po_live::LiveList;
 use po_model::{Block, Machine, Outcome, Pair, Steps};
@@ -58,35 +61,52 @@ pub fn cut_within(blocks: &mut [Block], b: usize, done: usize)
 pub fn go_on_within(
     alloc: Global,
     blocks: &mut [Block],
+    marks: &mut [Vec<Option<Mark>>],
     lives: &LiveList,
     b: usize,
     at: &mut Standing,
 )
     requires block { b < length blocks.old }
+    requires beside { length marks.old ≡ length blocks.old }
     requires placed { IsPlaced (map block_of blocks.old) lives.now b at.old }
     ensures place { scan_by (map block_of blocks.new) lives.now b at.new
         ≡ within (on onward) (scan_by (map block_of blocks.old) lives.now b at.old) }
     ensures placed { IsPlaced (map block_of blocks.new) lives.now b at.new }
+    ensures marks { (m : Machine) → AllTrue m (map block_of blocks.old) marks.old b at.old
+        → AllTrue m (map block_of blocks.new) marks.new b at.new }
 {
-    go_on(alloc, &mut blocks[b].instrs, lives, b, at);
+    go_on(alloc, &mut blocks[b].instrs, &mut marks[b], lives, b, at);
 }
 
 /// On from the pair that is ready in the b-th block, by what becomes of it.
 pub fn settle_within(
     alloc: Global,
     blocks: &mut [Block],
+    marks: &mut [Vec<Option<Mark>>],
     lives: &LiveList,
     b: usize,
     at: &mut Standing,
     o: Outcome,
 )
     requires ready { HasPair (map block_of blocks.old) b at.old }
+    requires beside { length marks.old ≡ length blocks.old }
     requires placed { IsPlaced (map block_of blocks.old) lives.now b at.old }
     ensures place { scan_by (map block_of blocks.new) lives.now b at.new
         ≡ after_try (combination_of o) (scan_by (map block_of blocks.old) lives.now b at.old) }
     ensures placed { IsPlaced (map block_of blocks.new) lives.now b at.new }
+    ensures marks { (m : Machine) → AllTrue m (map block_of blocks.old) marks.old b at.old
+        → AllTrue m (map block_of blocks.new) marks.new b at.new }
 {
-    settle(alloc, &mut blocks[b].instrs, lives, b, at, o);
+    settle(
+        alloc,
+        &mut blocks[b].instrs,
+        &mut marks[b],
+        lives,
+        b,
+        at,
+        o,
+        None,
+    );
 }
 
 /// Tries the pair that is ready in the b-th block, and goes on from it. A step is counted.
@@ -95,6 +115,7 @@ pub fn try_within<L: Ledger>(
     m: &Machine,
     index: &Index,
     blocks: &mut [Block],
+    marks: &mut [Vec<Option<Mark>>],
     lives: &LiveList,
     b: usize,
     at: &mut Standing,
@@ -103,11 +124,24 @@ pub fn try_within<L: Ledger>(
     requires entries { length m.now.entries < 2 ^ 32 }
     requires index { IsIndexOf m.now index.now }
     requires ready { HasPair (map block_of blocks.old) b at.old }
+    requires beside { length marks.old ≡ length blocks.old }
     requires placed { IsPlaced (map block_of blocks.old) lives.now b at.old }
+    requires marks { AllTrue m.now (map block_of blocks.old) marks.old b at.old }
     ensures tried { OnOk result (IsTried m.now (scan_by (map block_of blocks.old) lives.now b at.old)
         (scan_by (map block_of blocks.new) lives.now b at.new)) }
     ensures placed { IsPlaced (map block_of blocks.new) lives.now b at.new }
+    ensures marks { OnOk result (AllTrue m.now (map block_of blocks.new) marks.new b at.new) }
     ensures counted { OnOk result (steps.new ≡ steps.old + 1) }
 {
-    try_pair(alloc, m, index, &mut blocks[b].instrs, lives, b, at, steps)
+    try_pair(
+        alloc,
+        m,
+        index,
+        &mut blocks[b].instrs,
+        &mut marks[b],
+        lives,
+        b,
+        at,
+        steps,
+    )
 }

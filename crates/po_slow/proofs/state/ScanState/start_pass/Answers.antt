@@ -3,6 +3,7 @@ use Rattle.po_model.specs.Blocks.{code_of}
 use Rattle.po_live.specs.Parts.{tells}
 use Rattle.po_slow.specs.States.{scan_of, IsFormedScan}
 use Rattle.po_slow.proofs.Passing.{after_last, formed_cut, formed_enter_at}
+use Rattle.po_slow.proofs.MarksWritten.{all_left}
 use Rattle.po_slow.proofs.state.ScanState.start_pass.Goals as goal
 
 pub returns-clause-goes_on : goal.returns-clause-goes_on
@@ -21,4 +22,11 @@ returns-clause-formed c =
       formed =
           subst IsFormedScan (sym c.enter.ensures.scan)
           (formed_enter_at (code_of s.code) c.in_ok-self.field-0 0 false f);
+      beside = c.enter.ensures.beside;
     }
+
+pub returns-clause-marks : goal.returns-clause-marks
+returns-clause-marks c = λ m t.
+    let s = c.args.self.now in
+    c.enter.ensures.marks m
+    (all_left m (code_of s.code) s.marks.items s.block s.at c.requires.closed t 0 false)
