@@ -28,16 +28,19 @@ const LINES: [(u32, u32, &str); 9] = [
     (99, 100, "units 100 before 5180 after 3993 rules 28\n"),
 ];
 
+/// The machine that a text begins with. Its text is any, so that no proof reads `tiny` word by word.
+fn machine_of(alloc: Global, text: &str) -> Result<Arc<Machine>, Fail>
+    ensures { IfOk result (λ m. IsMachine (arc_value m)) }
+{
+    let (machine, _) = read_machine(alloc, text.as_bytes())?;
+    Ok(Arc::new(alloc, machine)?)
+}
+
 /// The sample machine.
 fn tiny(alloc: Global) -> Result<Arc<Machine>, Fail>
     ensures { IfOk result (λ m. IsMachine (arc_value m)) }
 {
-    let text = TINY.as_bytes();
-    if text.len() > 4096 {
-        return Err(Fail::from("too long"));
-    }
-    let (machine, _) = read_machine(alloc, text)?;
-    Ok(Arc::new(alloc, machine)?)
+    machine_of(alloc, TINY)
 }
 
 #[test]

@@ -25,12 +25,19 @@ use std::test::Fail;
 
 const START: Spot = Spot { offset: 0, line: 1 };
 
+/// The machine that a text begins with. Its text is any, so that no proof reads `tiny` word by word.
+fn machine_of(alloc: Global, text: &str) -> Result<Arc<Machine>, Fail>
+    ensures { IfOk result (λ m. IsMachine (arc_value m)) }
+{
+    let (machine, _) = read_machine(alloc, text.as_bytes())?;
+    Ok(Arc::new(alloc, machine)?)
+}
+
 /// The machine `tiny`.
 pub(crate) fn tiny(alloc: Global) -> Result<Arc<Machine>, Fail>
     ensures { IfOk result (λ m. IsMachine (arc_value m)) }
 {
-    let (machine, _) = read_machine(alloc, TINY.as_bytes())?;
-    Ok(Arc::new(alloc, machine)?)
+    machine_of(alloc, TINY)
 }
 
 /// The second pair that is tried of a code, on a machine on which the first one stays.

@@ -1,5 +1,5 @@
 //! Rules of `v3 := c | v4 := (v2 + v3)` on the machine `tiny`, added to a table one behind the other.
-ghost use Rattle.std.specs.Prelude.{◌≡◌, ◌<◌};
+ghost use Rattle.std.specs.Prelude.{◌≡◌, ◌<◌, IfOk};
 ghost use Rattle.std.specs.Arc.{arc_value};
 ghost use Rattle.po_model.specs.Machines.{IsMachine};
 
@@ -77,13 +77,19 @@ fn adds<L: Ledger>(
     Ok(refused && table.len() == 2)
 }
 
+/// The machine that a text begins with. Its text is any, so that no proof reads `tiny` word by word.
+fn machine_of(alloc: Global, text: &str) -> Result<Arc<Machine>, Fail>
+    ensures { IfOk result (λ m. IsMachine (arc_value m)) }
+{
+    let (machine, _) = read_machine(alloc, text.as_bytes())?;
+    Ok(Arc::new(alloc, machine)?)
+}
+
 #[test]
 fn adding(rt: HostRuntime) -> Result<(), Fail> {
     let alloc = rt.alloc();
-    let (machine, _) = read_machine(alloc, TINY.as_bytes())?;
-    let (other, _) = read_machine(alloc, OTHER.as_bytes())?;
-    let machine = Arc::new(alloc, machine)?;
-    let other = Arc::new(alloc, other)?;
+    let machine = machine_of(alloc, TINY)?;
+    let other = machine_of(alloc, OTHER)?;
     assert!(rt; adds::<Brand>(alloc, machine, other, Blank::new(1))?);
     Ok(())
 }
