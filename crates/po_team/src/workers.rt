@@ -18,6 +18,7 @@ use po_pool::{Bell, Gate, Job, Place};
 use po_queue::{Pass, Posts};
 use po_rule::{Miss, Table};
 use po_store::{Edition, Note, StoreName};
+use po_tally::{Brief, shorten};
 use po_word::OutOfMemory;
 use std::alloc::Global;
 use std::marker::Brand;
@@ -224,7 +225,7 @@ impl<
 > Job for Workers<'a, V, T, L, R, W, G> {
     type Seat = WorkerSeat<T, L>;
 
-    type Out = Work;
+    type Out = Brief;
 
     ghost count = { λ w. length w.codes.now };
 
@@ -240,9 +241,9 @@ impl<
         alloc: Global,
         seat: &mut WorkerSeat<T, L>,
         _place: u32,
-        _done: &[Work],
+        _done: &[Brief],
         index: u32,
-    ) -> Result<Work, OutOfMemory> {
+    ) -> Result<Brief, OutOfMemory> {
         self.gate.at(Place::UnitStart(index));
         let note = published(self.rt, self.taught);
         let Some(way) = seat.way.take() else {
@@ -260,7 +261,8 @@ impl<
         seat.way = Some(way);
         seat.pass = Some(pass);
         seat.fulls = fulls;
+        let brief = shorten(alloc, work)?;
         self.gate.at(Place::UnitEnd(index));
-        Ok(work)
+        Ok(brief)
     }
 }
