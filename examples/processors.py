@@ -1,5 +1,6 @@
 """The processors on which programs are run, and the steps that assemble, link and run one. examples/run and tests/entries share it."""
 import pathlib
+import re
 import shlex
 import shutil
 import subprocess
@@ -45,6 +46,11 @@ def output_of(step, words, given=""):
     if ended.returncode != 0:
         raise StepFailed(f"{step}: status {ended.returncode}: {ended.stderr.strip()}")
     return ended.stdout
+
+
+def assembly_of(po, given):
+    """The assembly that a command of po writes for an input, without the rules that `opt` writes behind it."""
+    return re.split(r"^rules \d+$", output_of("po", po, given), maxsplit=1, flags=re.M)[0]
 
 
 def missing_tool(target):

@@ -7,6 +7,7 @@ from typing import NamedTuple
 TOP = pathlib.Path(__file__).resolve().parent.parent
 SECONDS = 20
 MODES = ["naive", "slow", "opt"]
+MADE = "gen --seed 7 --units 3"         # the mode that reads nothing
 WORKERS = ["opt --workers 1", "opt --workers 4"]        # tried where the program takes these words
 LATE = None             # the status of a run that was stopped
 
@@ -39,7 +40,7 @@ def small_input():
 
 
 def modes_of(po):
-    """The modes that the program takes, each by its words."""
+    """The modes that read, as far as the program takes them, each by its words."""
     return MODES + [words for words in WORKERS if run([po, *words.split()], small_input()).status == 0]
 
 

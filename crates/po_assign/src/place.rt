@@ -49,7 +49,7 @@ pub fn place_spans(alloc: Global, count: usize, spans: &[Span]) -> Result<Placin
     ensures { IfOk result (Places count (map interval_from spans.now)) }
 {
     let mut ends = vec![in alloc; 0; count]?;
-    let mut regs = Vec::new(alloc);
+    let mut regs = Vec::with_capacity(alloc, spans.len())?;
     for index in 0..spans.len() {
         let span = spans[index];
         let Some(free) = lowest_free(&ends, span.start) else {

@@ -18,6 +18,9 @@ use po_term::{Cond, Instr, Reg, Term, Transfer};
 use po_word::OutOfMemory;
 use std::alloc::Global;
 
+/// As many registers as most codes have.
+const ROOM: usize = 64;
+
 fn note_register(last: &mut Vec<u32>, point: u32, reg: Reg) -> Result<(), OutOfMemory>
     ensures { OnOk result ((v : ℕ) →
         read_at last.new.items v ≡ (if is_reg reg (RegVar (Virt v)) then point else read_at last.old.items v)) }
@@ -102,7 +105,7 @@ pub fn last_reads(alloc: Global, blocks: &[Block]) -> Result<Vec<u32>, OutOfMemo
     requires { length (flat (map block_of blocks.now)) < 2 ^ 29 }
     ensures { IfOk result (λ last. (v : ℕ) → read_at last.items v ≡ last_read v 0 0 (flat (map block_of blocks.now))) }
 {
-    let mut last = Vec::new(alloc);
+    let mut last = Vec::with_capacity(alloc, ROOM)?;
     let mut first = 0;
     for block in blocks {
         note_block(&mut last, first, &block.instrs)?;

@@ -83,7 +83,7 @@ pub fn spans_of(alloc: Global, last: &[u32], blocks: &[Block]) -> Result<Vec<Spa
     requires { length (flat (map block_of blocks.now)) < 2 ^ 29 }
     ensures { IfOk result (λ spans. spans.items ≡ spans_from (read_at last.now) 0 (flat (map block_of blocks.now))) }
 {
-    let mut spans = Vec::new(alloc);
+    let mut spans = Vec::with_capacity(alloc, last.len())?;
     let mut first = 0;
     for block in blocks {
         push_block(last, first, &block.instrs, &mut spans)?;

@@ -2,7 +2,7 @@
 #![tactic(auto)]
 
 use po_pool::Open;
-use po_run::{Status, po_run};
+use po_run::{Status, po_run, tell};
 use po_text::{StdSink, StdSource};
 use std::env;
 use std::io::ErrorKind;
@@ -38,12 +38,13 @@ fn exit_status(status: Status) -> u8 {
 }
 
 fn main(rt: HostRuntime) -> ExitCode {
+    let mut notes = StdSink::new(rt.stderr());
     let Some(words) = words(&rt) else {
+        tell(&mut notes, Status::OutOfMemory, None);
         return ExitCode::from(exit_status(Status::OutOfMemory));
     };
     let mut source = StdSource::new(rt.stdin());
     let mut sink = StdSink::new(rt.stdout());
-    let mut notes = StdSink::new(rt.stderr());
     let alloc = rt.alloc();
     let status = po_run(
         &rt,

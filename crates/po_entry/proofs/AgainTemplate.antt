@@ -1,4 +1,4 @@
--- The printed mark and template of an entry are read as themselves.
+-- A template is read as its pieces.
 use Rattle.std.proofs.Common.{◌≡◌, ◌≢◌, ℕ, ◌+◌, ◌-◌, ◌<◌, ◌≤◌, ◌==◌, Bool, true, false, nat_le, List, [], ◌∷◌, ◌++◌}
 use Rattle.std.proofs.Common.{length, append_assoc, append-nil, get_or, map, All, codes, refl, sym, ap, ◌∙◌, subst}
 use Rattle.std.proofs.Common.{arith, zero, suc, Some, None, Result, Ok}
@@ -12,20 +12,20 @@ use Rattle.po_model.specs.declared.machine.Piece.{Piece}
 use Rattle.po_model.specs.declared.machine.Piece.TheVariants as piece
 use Rattle.po_model.specs.Patterns.{PatMove, SetsTo, Compares, Stores, Jumps, Branches, BranchesOn, Calls, Returns}
 use Rattle.po_model.specs.Entries.{Sort, OfReg, OfNum, OfSym, OfLabel, Place, place, kind_of as kind_of_move, IsAmong}
-use Rattle.po_model.specs.Entries.{IsPieceOf, MayClobber}
+use Rattle.po_model.specs.Entries.{IsPieceOf}
 use Rattle.po_pattern.specs.declared.operands.Operands.{Operands}
 use Rattle.po_pattern.specs.declared.operands.OperandKind.{OperandKind}
 use Rattle.po_pattern.specs.declared.operands.OperandKind.TheVariants.{Register, Constant, Symbol, Label}
 use Rattle.po_pattern.specs.Seen.{kind_of, same_kind}
 use Rattle.po_entry.specs.declared.begun.Begun.{Begun}
 use Rattle.po_entry.specs.EntryText.{is_mark, byte_text, piece_text, template_text}
-use Rattle.po_entry.specs.ListRules.{sets_cc, clobber_in}
+use Rattle.po_entry.specs.ListRules.{sets_cc}
 use Rattle.po_entry.specs.Template.{arrow, kind_by, piece_by, is_seen, template_step, template_from, nothing_yet}
 use Rattle.po_entry.specs.Template.{whole_with, template_in}
 use Rattle.po_pattern.proofs.Told.{sort_of, Tells}
 use Rattle.po_entry.proofs.Noted.{kind_at}
-use Rattle.po_entry.proofs.AgainParts.{at, Again, mark_again, digit_here}
-use Rattle.po_entry.proofs.AgainMoves.{says_again, after_is, behind_is, keyword_again, word_says, back_move}
+use Rattle.po_entry.proofs.AgainParts.{at, mark_again, digit_here}
+use Rattle.po_entry.proofs.AgainMoves.{says_again, after_is, back_move}
 use Rattle.po_entry.proofs.AgainFits.{AreSmall, kind_again}
 
 -- `clobber cc`
@@ -46,26 +46,6 @@ no_cc (m ∷ ms) h =
     leaves_cc (BranchesOn t u r k) h = refl
     leaves_cc (Calls k) h = refl
     leaves_cc Returns h = refl
-
--- what stands behind the transfers
-abbrev pub behind_list : Bool → List ℕ → List ℕ
-behind_list true template = codes "clobber" ++ (32 ∷ (codes "cc" ++ (32 ∷ (codes "=>" ++ (32 ∷ template)))))
-behind_list false template = codes "=>" ++ (32 ∷ template)
-
-pub clobber_again : (clobbers : Bool) (ms : List PatMove) (c : ℕ) (template : List ℕ) (seen : Operands)
-    → MayClobber clobbers ms → Again (clobber_in (map back_move ms) (at c (behind_list clobbers template)) seen)
-    clobbers (codes "=>" ++ (32 ∷ template)) seen
-unfolding clobber_in
-clobber_again true ms c template seen h =
-    let behind : List ℕ = codes "cc" ++ (32 ∷ (codes "=>" ++ (32 ∷ template))) in
-    let yes = says_again (codes "clobber") c behind refl in
-    let none = no_cc ms h in
-    let left = behind_is (codes "clobber") c behind refl refl in
-    let word = keyword_again (codes "cc") (c + 7 + 1) (codes "=>" ++ (32 ∷ template)) refl refl in
-    record { column = c + 7 + 1 + 2 + 1; is = rw yes (rw none (rw left (rw word refl))) }
-clobber_again false ms c template seen h =
-    let no = word_says (codes "=>") (codes "clobber") c template false refl refl in
-    record { column = c; is = rw no refl }
 
 pub arrow_again : (c : ℕ) (template : List ℕ) → arrow (at c (codes "=>" ++ (32 ∷ template)))
     ≡ Ok (at (c + 2 + 1) template)
@@ -109,7 +89,7 @@ seen_among ps seen k o told a =
 
 -- the pieces
 
-from_here : Operands → ℕ → List Piece → List ℕ → Result Begun LineFault
+unfoldable pub from_here : Operands → ℕ → List Piece → List ℕ → Result Begun LineFault
 from_here seen c pieces bytes = template_from seen c (record { pieces = pieces; waiting = None }) bytes
 
 one_byte : (seen : Operands) (c b : ℕ) (pieces : List Piece) (more : List ℕ) → is_mark b ≡ false → 32 ≤ b → b ≤ 126
@@ -184,21 +164,27 @@ piece_again ps seen (piece.Sym k) c pieces more told small h =
           (seen_among ps seen k Symbol told h),
     )
 
-pieces_again : (ps : List Place) (seen : Operands) (xs : List Piece) (c : ℕ) (pieces : List Piece) → Tells seen ps
-    → AreSmall ps → All (IsPieceOf ps) xs → from_here seen c pieces (template_text xs)
-    ≡ Ok (record { pieces = pieces ++ xs; waiting = None })
-unfolding from_here template_from
-pieces_again ps seen [] c pieces told small h = ap (λ (x : List Piece). Ok (record { pieces = x; waiting = None }))
-    (sym (append-nil pieces))
-pieces_again ps seen (x ∷ xs) c pieces told small h =
-    let one = piece_again ps seen x c pieces (template_text xs) told small (All-head (IsPieceOf ps) x xs h) in
-    one.1 ∙ pieces_again ps seen xs one.0 (pieces ++ x ∷ []) told small (All-tail (IsPieceOf ps) x xs h)
-    ∙ ap (λ (y : List Piece). Ok (record { pieces = y; waiting = None })) (append_assoc pieces (x ∷ []) xs)
+-- the bytes of these pieces, and what they leave
+pub pieces_again : (ps : List Place) (seen : Operands) (xs : List Piece) (c : ℕ) (pieces : List Piece)
+    (more : List ℕ) → Tells seen ps → AreSmall ps → All (IsPieceOf ps) xs → (d : ℕ)
+    × (from_here seen c pieces (template_text xs ++ more) ≡ from_here seen d (pieces ++ xs) more)
+pieces_again ps seen [] c pieces more told small h = (
+  c,
+  ap (λ (x : List Piece). from_here seen c x more) (sym (append-nil pieces)),
+)
+pieces_again ps seen (x ∷ xs) c pieces more told small h =
+    let one = piece_again ps seen x c pieces (template_text xs ++ more) told small (All-head (IsPieceOf ps) x xs h) in
+    let rest = pieces_again ps seen xs one.0 (pieces ++ x ∷ []) more told small (All-tail (IsPieceOf ps) x xs h) in (
+      rest.0,
+      ap (λ (w : List ℕ). from_here seen c pieces w) (append_assoc (piece_text x) (template_text xs) more) ∙ one.1
+          ∙ rest.1 ∙ ap (λ (y : List Piece). from_here seen rest.0 y more) (append_assoc pieces (x ∷ []) xs),
+    )
 
 pub template_again : (ps : List Place) (seen : Operands) (xs : List Piece) (c : ℕ) → Tells seen ps → AreSmall ps
     → All (IsPieceOf ps) xs → template_in seen (at c (template_text xs)) ≡ Ok xs
-unfolding template_in from_here
+unfolding template_in template_from from_here
 template_again ps seen xs c told small h =
+    let all = pieces_again ps seen xs c [] [] told small h in
     let read : template_from seen c nothing_yet (template_text xs) ≡ Ok (record { pieces = xs; waiting = None }) =
-    pieces_again ps seen xs c [] told small h in
+    ap (λ (w : List ℕ). template_from seen c nothing_yet w) (sym (append-nil (template_text xs))) ∙ all.1 in
     ap (λ (r : Result Begun LineFault). r >>= (λ s. whole_with s.pieces s.waiting)) read

@@ -1,11 +1,11 @@
 -- Two lines that are the same up to an end of a word are read alike up to there: words, transfers, the whole line.
-use Rattle.std.proofs.Common.{◌≡◌, ℕ, ◌+◌, ◌-◌, ◌≤◌, ◌==◌, ◌&&◌, Bool, true, false, not, nat_le, List, [], ◌∷◌, ◌++◌}
-use Rattle.std.proofs.Common.{length, take, drop, codes, refl, sym, ap, ◌∙◌, subst, arith, zero, suc, Option}
-use Rattle.std.proofs.Common.{Some, None}
-use Rattle.std.proofs.Common.{Result, Ok, Err}
+use Rattle.std.proofs.Common.{◌≡◌, ℕ, ◌+◌, ◌-◌, ◌<◌, ◌≤◌, ◌==◌, ◌&&◌, Bool, true, false, not, nat_le, List, [], ◌∷◌}
+use Rattle.std.proofs.Common.{◌++◌, leb-true, length, take, drop, codes, refl, sym, ap, ◌∙◌, subst, arith, zero, suc}
+use Rattle.std.proofs.Common.{Option, Some, None, Result, Ok, Err}
 use Rattle.std.specs.Prelude.{cond, ⊤}
 use Rattle.std.specs.List.{prefix_len, list_any}
 use Rattle.std.specs.Option.{option_map}
+use Rattle.std.proofs.lemmas.Bool.Decides.{nat_tests}
 use Rattle.std.proofs.lemmas.List.{length-drop, take-append-le, drop-append-le}
 use Rattle.std.proofs.lemmas.List.Sums.{prefix_len-le-length}
 use Rattle.po_word.specs.declared.operator.Rel.{Rel}
@@ -14,6 +14,7 @@ use Rattle.po_text.specs.declared.fault.Kind.TheVariants as kind
 use Rattle.po_name.specs.Names.{is_digit}
 use Rattle.po_lines.specs.declared.fault.LineFault.{LineFault}
 use Rattle.po_lines.specs.Faults.{◌>>=◌, fault}
+use Rattle.po_lines.proofs.Results.{err_is}
 use Rattle.po_lines.specs.Leaves.{same}
 use Rattle.po_model.specs.declared.machine.Entry.{Entry}
 use Rattle.po_model.specs.declared.machine.Piece.{Piece}
@@ -41,7 +42,7 @@ use Rattle.po_entry.specs.ListRules.{may_follow, sets_cc}
 use Rattle.po_entry.specs.Template as template
 use Rattle.po_entry.specs.Reading.{entry_in}
 use Rattle.po_entry.specs.Writing.{ends_here}
-use Rattle.po_entry.specs.Kept.{IsKept}
+use Rattle.po_entry.specs.Kept.{IsKept, IsFirst}
 use Rattle.po_entry.proofs.AgainParts.{at}
 use Rattle.po_entry.proofs.KeptParts.{Two, LateFault, LateAny, LateRest, own_column, skip_column, Late, read_at}
 use Rattle.po_entry.proofs.KeptParts.{Rests, same_rest, both_rests, late_rest, Reads, same_fault, both_read, late_read}
@@ -665,3 +666,16 @@ unfolding entry_in
 word_kept front s t column l ends_s ends_t e =
     let k : Two = record { s = s; t = t; ends_s = ends_s; ends_t = ends_t; e = 1 + length front } in
     fault_kept front s t column k refl l _ _ (line_last k front refl) e
+
+column_is : (m n : ℕ) → ◌≡◌ {A = Result Entry LineFault} (Err (fault m kind.Word)) (Err (fault n kind.Word)) → m ≡ n
+column_is m n h = ap (λ (f : LineFault). f.column) (err_is h)
+
+pub word_first : IsFirst
+word_first front s t column other l ends_s ends_t e f = by_place (nat_le other (length front)) refl
+  where
+    by_place : (x : Bool) → nat_le other (length front) ≡ x → length front < other
+    by_place true h =
+        let near : other ≤ length front = leb-true other (length front) h in
+        let same = column_is column other (sym e ∙ word_kept front t s other near ends_t ends_s f) in
+        absurd (omega (arith, l, near, same))
+    by_place false h = grind (arith, nat_tests)

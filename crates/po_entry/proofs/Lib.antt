@@ -13,12 +13,12 @@ pub mod AgainMoves
 pub mod AgainFits
 pub mod AgainList
 pub mod AgainTemplate
-pub mod Again
 pub mod Plain
 pub mod WrittenParts
 pub mod WrittenTerms
 pub mod WrittenMoves
 pub mod Written
+pub mod Printed
 pub mod ReadsParts
 pub mod ReadsTerms
 pub mod ReadsMoves
@@ -26,3 +26,4 @@ pub mod ReadsLine
 pub mod KeptParts
 pub mod KeptTerms
 pub mod KeptLine
+pub mod Whole

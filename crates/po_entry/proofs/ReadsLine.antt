@@ -1,33 +1,37 @@
 -- A line that is written as an entry may be is read as that entry.
 use Rattle.std.proofs.Common.{◌≡◌, ℕ, ◌+◌, ◌<◌, ◌≤◌, Bool, true, false, List, [], ◌∷◌, ◌++◌, length, map, All}
-use Rattle.std.proofs.Common.{AllPairs, codes, refl, sym, ap, ◌∙◌, subst, arith, zero, suc, Ok, append_assoc}
+use Rattle.std.proofs.Common.{AllPairs, codes, refl, sym, ap, ◌∙◌, subst, arith, zero, suc, Result, Ok, append_assoc}
 use Rattle.std.proofs.Common.{append-nil}
 use Rattle.std.proofs.Common.{length-append}
 use Rattle.std.specs.List.{prefix_len}
 use Rattle.std.proofs.lemmas.List.{map-append}
 use Rattle.std.proofs.lemmas.List.Elements.{All-head, All-tail}
 use Rattle.po_text.specs.Words.{is_blank}
+use Rattle.po_lines.specs.declared.fault.LineFault.{LineFault}
+use Rattle.po_lines.specs.Faults.{◌>>=◌}
 use Rattle.po_lines.specs.Leaves.{same}
 use Rattle.po_model.specs.declared.machine.Entry.{Entry}
 use Rattle.po_model.specs.declared.machine.PatTransfer.{PatTransfer}
+use Rattle.po_model.specs.declared.machine.Piece.{Piece}
 use Rattle.po_model.specs.Patterns.{PatMove, pat_moves_of}
 use Rattle.po_model.specs.Entries.{Place, GoesBefore, MayClobber, IsPatMove, move_places, places_of, IsEntry}
 use Rattle.po_pattern.specs.declared.operands.Operands.{Operands}
 use Rattle.po_pattern.specs.Seen.{none_seen}
-use Rattle.po_entry.specs.EntryText.{template_text}
+use Rattle.po_entry.specs.EntryText.{template_text, entry_text}
 use Rattle.po_entry.specs.Words.{says}
 use Rattle.po_entry.specs.ListRules.{with_next, transfers, clobber_in}
-use Rattle.po_entry.specs.Template.{arrow}
+use Rattle.po_entry.specs.Template.{arrow, template_in}
 use Rattle.po_entry.specs.Reading.{entry_in}
 use Rattle.po_entry.specs.Writing as writing
-use Rattle.po_entry.specs.Writing.{text, word, ◌⨾◌, IsWritten}
+use Rattle.po_entry.specs.Writing.{Form, blanks, word, ◌⨾◌, IsWritten}
+use Rattle.po_pattern.proofs.Told.{Tells}
 use Rattle.po_entry.proofs.Noted.{noted, Fits, noted_more, fits_front, fits_back}
 use Rattle.po_entry.proofs.AgainParts.{at, Again}
-use Rattle.po_entry.proofs.AgainMoves.{Follows, word_says, back_move}
+use Rattle.po_entry.proofs.AgainMoves.{Follows, word_says, back_move, back_move_again}
 use Rattle.po_entry.proofs.AgainFits.{small_moves, from_none}
 use Rattle.po_entry.proofs.AgainList.{may_again, before_it}
 use Rattle.po_entry.proofs.AgainTemplate.{no_cc, arrow_again, template_again}
-use Rattle.po_entry.proofs.Again.{backs}
+use Rattle.po_entry.proofs.Printed.{entry_printed}
 use Rattle.po_entry.proofs.ReadsParts.{skips}
 use Rattle.po_entry.proofs.ReadsMoves.{word_at, says_it, keyword_reads, follows_byte, move_reads, move_solid}
 
@@ -118,10 +122,6 @@ pattern_solid (m ∷ ms) from to w some h = move_solid m from w.0 w.1 (All-head 
 
 -- `clobber cc`
 
-arrow_bytes : (from to template : List ℕ) → text (codes "=> ") from to → text template to [] → from ≡ codes "=>"
-    ++ (32 ∷ template)
-arrow_bytes from to template h g = h ∙ ap (λ (w : List ℕ). codes "=> " ++ w) (g ∙ append-nil template)
-
 behind_pattern : (clobbers : Bool) (from to template : List ℕ) → writing.clobber clobbers from to → to ≡ codes "=>"
     ++ (32 ∷ template) → Behind from
 behind_pattern false from to template h e = subst (λ (w : List ℕ). Behind w) (sym (h ∙ e)) (record {
@@ -157,33 +157,77 @@ clobber_reads true ms c from to template seen w e h =
 
 -- the whole line
 
-line_reads : (e : Entry) (line : List ℕ) → IsEntry e → IsWritten e line → entry_in line
-    ≡ Ok (record { pattern = map back_move (pat_moves_of e.pattern); clobbers = e.clobbers; template = e.template })
+-- what stands before `=>`
+abbrev pub before_arrow : Entry → Form
+before_arrow e = blanks ⨾ word (codes "insn") ⨾ writing.pattern (pat_moves_of e.pattern) ⨾ writing.clobber e.clobbers
+
+abbrev pub with_template : Entry → List Piece → Result Entry LineFault
+with_template e pieces = let x : Entry = record {
+  pattern = map back_move (pat_moves_of e.pattern);
+  clobbers = e.clobbers;
+  template = pieces;
+} in Ok x
+
+-- a line whose template is read from this column on
+pub record Opens (e : Entry) (line template : List ℕ) : Type 0 where
+  pub column : ℕ
+  pub is : entry_in line ≡ (template_in (noted none_seen (places_of (pat_moves_of e.pattern))) (at column template)
+      >>= with_template e)
+
+pub line_opens : (e : Entry) (line template : List ℕ) → IsEntry e
+    → before_arrow e line (codes "=>" ++ (32 ∷ template)) → Opens e line template
 unfolding entry_in
-line_reads e line h w =
+line_opens e line template h w =
     let ms : List PatMove = pat_moves_of e.pattern in
-    let template : List ℕ = template_text e.template in
     let i = w.2 in
     let j = i.2 in
-    let k = j.2 in
-    let l = k.2 in
-    let small = small_moves ms h.each in
-    let fitted = from_none (places_of ms) h.operands small in
     let seen : Operands = noted none_seen (places_of ms) in
-    let arrow_is : k.0 ≡ codes "=>" ++ (32 ∷ template) = arrow_bytes k.0 l.0 template l.1 l.2 in
+    let tail : List ℕ = codes "=>" ++ (32 ∷ template) in
+    let fitted = from_none (places_of ms) h.operands (small_moves ms h.each) in
     let skip = skips 1 line w.0 w.1 (follows_byte 105 _ w.0 i.1.1 refl refl).solid in
     let begun = skip.is in
     let insn = word_at (codes "insn") skip.column w.0 i.0 i.1 refl (pattern_solid ms i.0 j.0 j.1 h.some h.each) in
     let word = keyword_reads (codes "insn") skip.column w.0 i.0 insn in
     let pattern = pattern_reads ms insn.column i.0 j.0 j.1 h.some h.few h.each h.pairs fitted.fits
-    (behind_pattern e.clobbers j.0 k.0 template k.1 arrow_is) in
+    (behind_pattern e.clobbers j.0 tail template j.2 refl) in
     let listed = pattern.is in
-    let mark = clobber_reads e.clobbers ms pattern.column j.0 k.0 template seen k.1 arrow_is h.clobber in
+    let mark = clobber_reads e.clobbers ms pattern.column j.0 tail template seen j.2 refl h.clobber in
     let marked = mark.is in
-    let opened : arrow (at mark.column k.0) ≡ Ok (at (mark.column + 2 + 1) template) =
-    ap (λ (x : List ℕ). arrow (at mark.column x)) arrow_is ∙ arrow_again mark.column template in
-    let read = template_again (places_of ms) seen e.template (mark.column + 2 + 1) fitted.told small h.template in
-    rw begun (rw word (rw listed (rw marked (rw opened (rw read refl)))))
+    let opened = arrow_again mark.column template in
+    record { column = mark.column + 2 + 1; is = rw begun (rw word (rw listed (rw marked (rw opened refl)))) }
+
+-- the line up to the template
+pub before_template : (e : Entry) (line : List ℕ) → IsWritten e line
+    → before_arrow e line (codes "=>" ++ (32 ∷ template_text e.template))
+before_template e line w =
+    let i = w.2 in
+    let j = i.2 in
+    let k = j.2 in
+    let l = k.2 in
+    let arrow_is : k.0 ≡ codes "=>" ++ (32 ∷ template_text e.template) = l.1
+    ∙ ap (λ (x : List ℕ). codes "=> " ++ x) (l.2 ∙ append-nil (template_text e.template)) in
+    let mark = subst (λ (x : List ℕ). writing.clobber e.clobbers j.0 x) arrow_is k.1 in
+    (w.0, w.1, (i.0, i.1, (j.0, j.1, mark)))
+
+-- the operands that the template may have are those that were told
+pub seen_of : (e : Entry) → IsEntry e → Tells (noted none_seen (places_of (pat_moves_of e.pattern)))
+    (places_of (pat_moves_of e.pattern))
+seen_of e h =
+    let ms : List PatMove = pat_moves_of e.pattern in
+    (from_none (places_of ms) h.operands (small_moves ms h.each)).told
+
+line_reads : (e : Entry) (line : List ℕ) → IsEntry e → IsWritten e line → entry_in line ≡ with_template e e.template
+line_reads e line h w =
+    let ms : List PatMove = pat_moves_of e.pattern in
+    let o = line_opens e line (template_text e.template) h (before_template e line w) in
+    let read = template_again (places_of ms) (noted none_seen (places_of ms)) e.template o.column (seen_of e h)
+    (small_moves ms h.each) h.template in
+    o.is ∙ ap (λ (r : Result (List Piece) LineFault). r >>= with_template e) read
+
+backs : (xs : List PatTransfer) → map back_move (pat_moves_of xs) ≡ xs
+backs [] = refl
+backs (x ∷ xs) = ap (λ (y : PatTransfer). y ∷ map back_move (pat_moves_of xs)) (back_move_again x)
+    ∙ ap (λ (ys : List PatTransfer). x ∷ ys) (backs xs)
 
 pub entry_reads : (e : Entry) (line : List ℕ) → IsEntry e → IsWritten e line → entry_in line ≡ Ok e
 entry_reads e line h w = line_reads e line h w
@@ -192,3 +236,7 @@ entry_reads e line h w = line_reads e line h w
       clobbers = e.clobbers;
       template = e.template;
     } in Ok x) (backs e.pattern)
+
+-- the printed line
+pub entry_again : (e : Entry) → IsEntry e → entry_in (entry_text e) ≡ Ok e
+entry_again e h = entry_reads e (entry_text e) h (entry_printed e h)

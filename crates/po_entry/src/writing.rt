@@ -7,7 +7,7 @@ ghost use Rattle.po_model.specs.Entries.{IsEntry};
 ghost use Rattle.po_entry.specs.EntryText.{entry_text};
 ghost use Rattle.po_entry.specs.Reading.{entry_in};
 ghost use Rattle.po_entry.specs.Writing.{IsWritten};
-ghost use Rattle.po_entry.specs.Kept.{IsKept};
+ghost use Rattle.po_entry.specs.Kept.{IsKept, IsFirst, IsNoWholeLine};
 
 /// A line is read as an entry exactly where a description may have the entry and the line is written as the entry may
 /// be: its printed text, with blanks where they may stand and each number in any spelling (docs/DESCRIPTION.md,
@@ -19,7 +19,10 @@ pub fn line_is_read_where_written()
 {}
 
 /// A fault of kind Word isn't changed by what stands behind its word: two lines that are the same up to a blank or the
-/// line's end behind the column of the fault have it alike (docs/PROGRAM.md, "Faults of the text").
+/// line's end behind the column of the fault have it alike. The words before it have no wrong one among them, and are
+/// no whole line, but where a byte is wrong that no template has (docs/PROGRAM.md, "Faults of the text").
 pub fn wrong_word_is_kept()
-    ensures { IsKept }
+    ensures behind { IsKept }
+    ensures before { IsFirst }
+    ensures no_whole_line { IsNoWholeLine }
 {}

@@ -6,7 +6,7 @@ ghost use Rattle.po_model.specs.Blocks.{block_of};
 ghost use Rattle.po_model.specs.Naive.{unless_blank};
 ghost use Rattle.po_expand.specs.Steps.{between, added, closed, marked, finished};
 
-use crate::state::Expansion;
+use crate::state::{Expansion, ROOM};
 use po_model::Block;
 use po_term::{Instr, Label, Transfer};
 use po_word::OutOfMemory;
@@ -17,7 +17,7 @@ use std::mem;
 fn single(alloc: Global, transfer: Transfer) -> Result<Instr, OutOfMemory>
     ensures { IfOk result (λ instr. instr_of instr ≡ move_of transfer ∷ []) }
 {
-    let mut xs = Vec::new(alloc);
+    let mut xs = Vec::with_capacity(alloc, 1)?;
     xs.push(transfer)?;
     Ok(Instr { xs })
 }
@@ -52,7 +52,8 @@ impl Expansion {
     pub fn close(&mut self, alloc: Global) -> Result<(), OutOfMemory>
         ensures { OnOk result (between self.new ≡ closed (between self.old)) }
     {
-        let instrs = mem::replace(&mut self.instrs, Vec::new(alloc));
+        let next = Vec::with_capacity(alloc, ROOM)?;
+        let instrs = mem::replace(&mut self.instrs, next);
         let block = Block {
             label: self.label,
             instrs,

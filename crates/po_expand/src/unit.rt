@@ -9,22 +9,24 @@ ghost use Rattle.po_expand.specs.Fits.{Fits};
 ghost use Rattle.po_expand.specs.Steps.{between, nothing_yet};
 
 use crate::names::{Numbered, labels, syms};
-use crate::state::Expansion;
+use crate::state::{Expansion, ROOM};
 use po_ir::{Op, Unit};
 use po_model::{Block, Code, UnitCode};
 use po_word::OutOfMemory;
 use std::alloc::Global;
 
-fn start(alloc: Global) -> Expansion
-    ensures { between result ≡ nothing_yet }
+fn start(alloc: Global) -> Result<Expansion, OutOfMemory>
+    ensures { IfOk result (λ e. between e ≡ nothing_yet) }
 {
-    Expansion {
+    let instrs = Vec::with_capacity(alloc, ROOM)?;
+    let stack = Vec::with_capacity(alloc, ROOM)?;
+    Ok(Expansion {
         ended: Vec::new(alloc),
         label: None,
-        instrs: Vec::new(alloc),
-        stack: Vec::new(alloc),
+        instrs,
+        stack,
         next: 0,
-    }
+    })
 }
 
 /// The blocks of these operations.
@@ -40,7 +42,7 @@ fn blocks(
     requires syms { length syms.now.table ≤ 65536 }
     ensures { IfOk result (λ blocks. map block_of blocks.items ≡ blocks_in labels.now.table syms.now.table ops.now) }
 {
-    let mut expansion = start(alloc);
+    let mut expansion = start(alloc)?;
     'ops: for op in ops {
         expansion.step(alloc, labels, syms, op)?;
     }

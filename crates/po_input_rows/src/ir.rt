@@ -18,7 +18,7 @@ const OTHERS: &str =
         con 5\nshr\ncon 6\nsar\nneg\nnot\npop\nadl -1\ndup\nbeq a\nadl 1\ndup\nbne a\nadl 1\ndup\nblt a\nadl 1\ndup\n\
         ble a\nadl 1\ndup\nbgt a\nadl 1\ndup\nbltu a\nadl 1\ndup\nbgeu a\nlab a\njmp a\nend\n";
 
-const FAULTS: [(&str, u32, u32, Kind); 39] = [
+const FAULTS: [(&str, u32, u32, Kind); 70] = [
     ("unit f\ncon 1\nre\n", 33, 1, Kind::Word),
     ("unit f\nlab a\nlab a\n", 33, 5, Kind::Duplicate),
     ("unit f\nend\n", 32, 1, Kind::FallsOff),
@@ -103,6 +103,40 @@ const FAULTS: [(&str, u32, u32, Kind); 39] = [
     ),
     ("unit f\ncon 1\ncall g 0\n", 33, 1, Kind::StackAtBoundary),
     ("unit f\ncon 1\ncon 2\nret\n", 34, 1, Kind::StackAtBoundary),
+    // each other form: its words, from left to right
+    ("unit f\ncon x\n", 32, 5, Kind::Word),
+    ("unit f\ncon 9999999999\n", 32, 5, Kind::Number),
+    ("unit f\nadl\n", 32, 4, Kind::Word),
+    ("unit f\nadl 1 2\n", 32, 7, Kind::Word),
+    ("unit f\nadg\n", 32, 4, Kind::Word),
+    ("unit f\nadg g h\n", 32, 7, Kind::Word),
+    ("unit f\nsto x\n", 32, 5, Kind::Word),
+    ("unit f\nadd x\n", 32, 5, Kind::Word),
+    ("unit f\nneg x\n", 32, 5, Kind::Word),
+    ("unit f\ndup x\n", 32, 5, Kind::Word),
+    ("unit f\npop x\n", 32, 5, Kind::Word),
+    ("unit f\nlab 1a\n", 32, 5, Kind::Word),
+    ("unit f\njmp\n", 32, 4, Kind::Word),
+    ("unit f\njmp a b\n", 32, 7, Kind::Word),
+    ("unit f\nbeq\n", 32, 4, Kind::Word),
+    ("unit f\nbeq a b\n", 32, 7, Kind::Word),
+    ("unit f\narg\n", 32, 4, Kind::Word),
+    ("unit f\narg 0 1\n", 32, 7, Kind::Word),
+    ("unit f\narg -1\n", 32, 5, Kind::Number),
+    ("unit f\ncall\n", 32, 5, Kind::Word),
+    ("unit f\ncall 1 0\n", 32, 6, Kind::Word),
+    ("unit f\ncall g x\n", 32, 8, Kind::Word),
+    ("unit f\nret x\n", 32, 5, Kind::Word),
+    // a further word, before the name that is there already
+    ("unit f\nlab a\nlab a b\n", 33, 7, Kind::Word),
+    ("unit f\nlab a\njmp a\nend\nunit f x\n", 35, 8, Kind::Word),
+    // and its stack
+    ("unit f\nlod\n", 32, 1, Kind::StackUnderflow),
+    ("unit f\ncon 1\nsto\n", 33, 1, Kind::StackUnderflow),
+    ("unit f\nneg\n", 32, 1, Kind::StackUnderflow),
+    ("unit f\ndup\n", 32, 1, Kind::StackUnderflow),
+    ("unit f\npop\n", 32, 1, Kind::StackUnderflow),
+    ("unit f\nret\n", 32, 1, Kind::StackUnderflow),
 ];
 
 /// A name of 64 bytes.
@@ -117,7 +151,7 @@ type Naming = (
     (u32, u32),
 );
 
-const NAMES: [Naming; 5] = [
+const NAMES: [Naming; 6] = [
     ("unit ", "\n", Some((32, 1, Kind::Word)), (31, 70)),
     ("unit f\nlab ", "\n", Some((33, 1, Kind::Word)), (32, 69)),
     (
@@ -126,24 +160,28 @@ const NAMES: [Naming; 5] = [
         Some((32, 5, Kind::NoLabel)),
         (32, 69),
     ),
+    (
+        "unit f\ncon 1\ndup\nbeq ",
+        "\nend\n",
+        Some((34, 5, Kind::NoLabel)),
+        (34, 69),
+    ),
     ("unit f\nadg ", "\nret\nend\n", None, (32, 69)),
     ("unit f\ncall ", " 0\nret\nend\n", None, (32, 70)),
 ];
 
-/// The place and kind of the first fault; none also where the text is longer than 4,194,304 bytes.
-fn fault(alloc: Global, text: &[u8]) -> Option<TextRefusal> {
-    if text.len() > 4194304 {
-        return None;
-    }
-    read_units(
-        alloc,
-        text,
-        Spot {
-            offset: 0,
-            line: 31,
-        },
-    )
-    .err()
+/// The lines before the units, which no reader of units looks at.
+const BEFORE: &[u8] = b"\n\n\n\n\n\n\n\n\n\n\n\n\n\n\n\n\n\n\n\n\n\n\n\n\n\n\n\n\n\n";
+
+/// The first fault of the units in a text, behind 30 lines.
+fn fault(alloc: Global, text: &[u8]) -> Result<Option<TextRefusal>, AllocError> {
+    let mut whole = Vec::from_slice(alloc, BEFORE)?;
+    whole.extend_from_slice(text)?;
+    let at = Spot {
+        offset: 30,
+        line: 31,
+    };
+    Ok(read_units(alloc, &whole, at).err())
 }
 
 fn at(line: u32, col: u32, kind: Kind) -> Option<TextRefusal> {
@@ -151,22 +189,23 @@ fn at(line: u32, col: u32, kind: Kind) -> Option<TextRefusal> {
 }
 
 #[test]
-fn faults(rt: HostRuntime) {
+fn faults(rt: HostRuntime) -> Result<(), Fail> {
     for (text, line, column, kind) in FAULTS {
-        let found = fault(rt.alloc(), text.as_bytes());
+        let found = fault(rt.alloc(), text.as_bytes())?;
         assert_eq!(rt; found, at(line, column, kind), "{text}");
     }
+    Ok(())
 }
 
 #[test]
-fn cut_texts(rt: HostRuntime) {
+fn cut_texts(rt: HostRuntime) -> Result<(), Fail> {
     // Each text that ends behind one of the lines but the last one.
     let text = SUM.as_bytes();
     let mut line: u32 = 31;
     for (i, byte) in text.iter().enumerate() {
         if *byte == b'\n' {
             line = line.wrapping_add(1);
-            let found = fault(rt.alloc(), &text[..=i]);
+            let found = fault(rt.alloc(), &text[..=i])?;
             let wanted = if line == 78 {
                 None
             } else {
@@ -176,7 +215,8 @@ fn cut_texts(rt: HostRuntime) {
         }
     }
     assert_eq!(rt; line, 78);
-    assert_eq!(rt; fault(rt.alloc(), b""), None);
+    assert_eq!(rt; fault(rt.alloc(), b"")?, None);
+    Ok(())
 }
 
 #[test]
@@ -185,10 +225,10 @@ fn names(rt: HostRuntime) -> Result<(), Fail> {
     for (before, behind, inside, (line, col)) in NAMES {
         let text = format!(in alloc; "{before}{LONGEST}{behind}")?;
         let wanted = inside.map(|(line, col, kind)| TextRefusal::BadText { line, col, kind });
-        assert_eq!(rt; fault(alloc, text.as_bytes()), wanted, "{before}");
+        assert_eq!(rt; fault(alloc, text.as_bytes())?, wanted, "{before}");
         let text = format!(in alloc; "{before}{LONGEST}i{behind}")?;
         let wanted = at(line, col, Kind::TooMany);
-        assert_eq!(rt; fault(alloc, text.as_bytes()), wanted, "{before}");
+        assert_eq!(rt; fault(alloc, text.as_bytes())?, wanted, "{before}");
     }
     Ok(())
 }
@@ -216,37 +256,73 @@ fn many(alloc: Global, count: u32) -> Result<Vec<u8>, AllocError> {
 #[test]
 fn limits(rt: HostRuntime) -> Result<(), Fail> {
     let alloc = rt.alloc();
-    // 64 values, and then the text ends; 65 values
-    let deep = repeated(alloc, "unit f\n", "con 1\n", 64)?;
-    assert_eq!(rt; fault(alloc, &deep), at(96, 1, Kind::Word));
-    let deep = repeated(alloc, "unit f\n", "con 1\n", 65)?;
-    assert_eq!(rt; fault(alloc, &deep), at(96, 1, Kind::TooMany));
+    // a 64th value, and then the text ends; a 65th value
+    for push in ["con 1\n", "adl 1\n", "adg g\n", "dup\n"] {
+        let mut deep = repeated(alloc, "unit f\n", "con 1\n", 63)?;
+        deep.extend_from_slice(push.as_bytes())?;
+        assert_eq!(rt; fault(alloc, &deep)?, at(96, 1, Kind::Word), "{push}");
+        deep.extend_from_slice(push.as_bytes())?;
+        assert_eq!(rt; fault(alloc, &deep)?, at(96, 1, Kind::TooMany), "{push}");
+    }
     let line = repeated(alloc, "//", "/", 4094)?;
-    assert_eq!(rt; fault(alloc, &line), None);
+    assert_eq!(rt; fault(alloc, &line)?, None);
     let line = repeated(alloc, "//", "/", 4095)?;
-    assert_eq!(rt; fault(alloc, &line), at(31, 4097, Kind::TooMany));
+    assert_eq!(rt; fault(alloc, &line)?, at(31, 4097, Kind::TooMany));
     // A carriage return is no part of the line right before a line feed, and a byte like any other elsewhere.
     let mut line = repeated(alloc, "//", "/", 4094)?;
     line.push(b'\r')?;
-    assert_eq!(rt; fault(alloc, &line), at(31, 4097, Kind::TooMany));
+    assert_eq!(rt; fault(alloc, &line)?, at(31, 4097, Kind::TooMany));
     line.push(b'\n')?;
-    assert_eq!(rt; fault(alloc, &line), None);
+    assert_eq!(rt; fault(alloc, &line)?, None);
     // 65,534 operations, and two more; then one more
     let mut most = repeated(alloc, "unit f\n", "con 1\npop\n", 32767)?;
     most.extend_from_slice(b"con 1\nret\n")?;
     most.extend_from_slice(b"end\n")?;
-    assert_eq!(rt; fault(alloc, &most), None);
-    let more = repeated(alloc, "unit f\n", "con 1\npop\n", 32769)?;
-    assert_eq!(rt; fault(alloc, &more), at(65568, 1, Kind::TooMany));
+    assert_eq!(rt; fault(alloc, &most)?, None);
+    // whatever its form and its stack are
+    for word in [
+        "con 1\n",
+        "adl\n",
+        "add x\n",
+        "lab 1\n",
+        "call g 5\n",
+        "ret\n",
+    ] {
+        let mut more = repeated(alloc, "unit f\n", "con 1\npop\n", 32768)?;
+        more.extend_from_slice(word.as_bytes())?;
+        assert_eq!(rt; fault(alloc, &more)?, at(65568, 1, Kind::TooMany), "{word}");
+    }
     Ok(())
 }
 
 #[test]
 fn too_many_units(rt: HostRuntime) -> Result<(), Fail> {
     let alloc = rt.alloc();
-    assert_eq!(rt; fault(alloc, &many(alloc, 65536)?), None);
+    assert_eq!(rt; fault(alloc, &many(alloc, 65536)?)?, None);
     let text = many(alloc, 65537)?;
-    assert_eq!(rt; fault(alloc, &text), at(262175, 1, Kind::TooMany));
+    assert_eq!(rt; fault(alloc, &text)?, at(262175, 1, Kind::TooMany));
+    Ok(())
+}
+
+/// A wrong first line, so many lines of eight bytes that say nothing, and then these bytes.
+fn long_text(alloc: Global, lines: u32, behind: &[u8]) -> Result<Vec<u8>, AllocError> {
+    let mut text = repeated(alloc, "unit 1\n", "///////\n", lines)?;
+    text.extend_from_slice(behind)?;
+    Ok(text)
+}
+
+#[test]
+fn input_limit(rt: HostRuntime) -> Result<(), Fail> {
+    let alloc = rt.alloc();
+    // 30 + 7 + 8 * 524,283 + 3 bytes are 4,194,304, and have the first line's fault. One more is that fault alone, in
+    // the line behind 30 + 1 + 524,283.
+    let text = long_text(alloc, 524283, b"///")?;
+    assert_eq!(rt; fault(alloc, &text)?, at(31, 6, Kind::Word));
+    let text = long_text(alloc, 524283, b"////")?;
+    assert_eq!(rt; fault(alloc, &text)?, at(524315, 4, Kind::TooMany));
+    // A line feed belongs to its line.
+    let text = long_text(alloc, 524283, b"///\n\n")?;
+    assert_eq!(rt; fault(alloc, &text)?, at(524315, 4, Kind::TooMany));
     Ok(())
 }
 

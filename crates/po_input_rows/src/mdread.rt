@@ -7,9 +7,6 @@ use std::test::Fail;
 
 /// The machine's text printed again, and the place behind it; nothing where the text is refused.
 fn again(alloc: Global, text: &str) -> Result<Option<(Vec<u8>, Spot)>, Fail> {
-    if text.len() > 100000 {
-        return Ok(None);
-    }
     match read_machine(alloc, text.as_bytes()) {
         Ok((machine, at)) => Ok(Some((print_machine(alloc, &machine)?, at))),
         Err(_) => Ok(None),
@@ -18,10 +15,11 @@ fn again(alloc: Global, text: &str) -> Result<Option<(Vec<u8>, Spot)>, Fail> {
 
 /// The place and the kind of the first fault.
 fn fault(alloc: Global, text: &str) -> Option<(u32, u32, Kind)> {
-    if text.len() > 100000 {
-        return None;
-    }
-    match read_machine(alloc, text.as_bytes()) {
+    fault_of(alloc, text.as_bytes())
+}
+
+fn fault_of(alloc: Global, text: &[u8]) -> Option<(u32, u32, Kind)> {
+    match read_machine(alloc, text) {
         Err(TextRefusal::BadText { line, col, kind }) => Some((line, col, kind)),
         _ => None,
     }
@@ -195,5 +193,19 @@ fn limits_of_descriptions(rt: HostRuntime) -> Result<(), Fail> {
     assert!(rt; again(alloc, &with_comment(alloc, 4096)?)?.is_some());
     let wanted = Some((6, 4097, Kind::TooMany));
     assert_eq!(rt; fault(alloc, &with_comment(alloc, 4097)?), wanted);
+    Ok(())
+}
+
+#[test]
+fn input_limit(rt: HostRuntime) -> Result<(), Fail> {
+    let alloc = rt.alloc();
+    // 8 * 524,288 bytes are 4,194,304, and have the first line's fault. One more is that fault alone.
+    let mut text = Vec::from_slice(alloc, b"machine\n")?;
+    for _ in 0..524287u32 {
+        text.extend_from_slice(b"///////\n")?;
+    }
+    assert_eq!(rt; fault_of(alloc, &text), Some((1, 8, Kind::Word)));
+    text.extend_from_slice(b"/")?;
+    assert_eq!(rt; fault_of(alloc, &text), Some((524289, 1, Kind::TooMany)));
     Ok(())
 }

@@ -21,6 +21,7 @@ use Rattle.po_text.specs.Number.{number_of}
 use Rattle.po_text.specs.Words.{is_blank}
 use Rattle.po_name.specs.Names.{is_name, is_name_byte, begins_name}
 use Rattle.po_lines.specs.Lines.{Numbered, is_feed, lines_at, lines_from}
+use Rattle.po_lines.proofs.LimitLaws.{within_is}
 use Rattle.po_lines.proofs.NumberLaws.{own, printed_again}
 use Rattle.po_lines.proofs.WordLaws.{IsSolid, words_again}
 use Rattle.po_ir.specs.declared.unit.Op.{Op}
@@ -378,6 +379,7 @@ unit_written u n o h =
     }
 
 -- a printed unit is read as itself
-pub printed_unit_again : (u : StackUnit) (n : ℕ) → IsUnit u
+pub printed_unit_again : (u : StackUnit) (n : ℕ) → IsUnit u → length (unit_text u) ≤ 4194304
     → units_behind (record { offset = 0; line = n }) (unit_text u) ≡ Ok (u ∷ [])
-printed_unit_again u n h = units_again (lines_from n 0 (unit_text u)) _ (u ∷ []) (unit_written u n 0 h)
+printed_unit_again u n h fits =
+    within_is (unit_text u) _ fits ∙ units_again (lines_from n 0 (unit_text u)) _ (u ∷ []) (unit_written u n 0 h)

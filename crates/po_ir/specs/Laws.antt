@@ -1,5 +1,5 @@
 -- Laws of reading and printing.
-use Rattle.std.specs.Prelude.{◌≡◌, ◌↔◌, ℕ, List, [], ◌∷◌, Ok}
+use Rattle.std.specs.Prelude.{◌≡◌, ◌↔◌, ℕ, ◌≤◌, List, [], ◌∷◌, length, Ok}
 use Rattle.po_lines.specs.Lines.{Numbered}
 use Rattle.po_ir.specs.declared.unit.Unit.{Unit as StackUnit}
 use Rattle.po_ir.specs.Grammar.{IsUnits}
@@ -11,8 +11,8 @@ use Rattle.po_ir.specs.Units.{IsUnit}
 abbrev pub ReadsWhatIsWritten : Type 0
 ReadsWhatIsWritten = (ls : List Numbered) (line : ℕ) (us : List StackUnit) → (units_in ls line ≡ Ok us) ↔ IsUnits ls us
 
--- the text of a unit is read as that unit
+-- the text of a unit is read as that unit, where it isn't too long
 abbrev pub ReadsPrinted : Type 0
 ReadsPrinted =
-    (u : StackUnit) (line : ℕ) → IsUnit u
+    (u : StackUnit) (line : ℕ) → IsUnit u → length (unit_text u) ≤ 4194304
     → units_behind (record { offset = 0; line = line }) (unit_text u) ≡ Ok (u ∷ [])

@@ -9,6 +9,7 @@ use Rattle.po_lines.specs.declared.fault.LineFault.{LineFault}
 use Rattle.po_lines.specs.Faults.{◌>>=◌, fault, TextFault, text_fault, at_line}
 use Rattle.po_lines.specs.Forms.{says_nothing, no_more, name_alone}
 use Rattle.po_lines.specs.Leaves.{same}
+use Rattle.po_lines.specs.Limit.{within_limit}
 use Rattle.po_lines.specs.Lines.{Numbered, lines_behind, line_behind}
 use Rattle.po_lines.specs.NameList.{has}
 use Rattle.po_lines.specs.Reading.{read_each}
@@ -124,9 +125,9 @@ units_in ls line = do
   s ← read_each step nothing_yet ls
   finish line s.units s.inside
 
--- the units of a text from a place on, or the first fault
+-- the units of a text from a place on, or the first fault; a text that is too long has that fault before any of a line
 abbrev pub units_behind : Spot → List ℕ → Result (List Unit) TextFault
-units_behind at text = units_in (lines_behind at text) (line_behind at text)
+units_behind at text = within_limit text (units_in (lines_behind at text) (line_behind at text))
 
 -- the state of the code that reads a unit, as the unit that has begun
 abbrev pub shown : Begun → Open

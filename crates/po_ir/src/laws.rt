@@ -8,7 +8,7 @@ pub fn units_are_written()
     ensures { ReadsWhatIsWritten }
 {}
 
-/// The text of a unit is read as that unit (docs/STACK.md, "Printed units").
+/// The text of a unit is read as that unit, where it has at most 4,194,304 bytes (docs/STACK.md, "Printed units").
 pub fn printed_units_are_read()
     ensures { ReadsPrinted }
 {}

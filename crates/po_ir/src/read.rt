@@ -5,7 +5,7 @@ ghost use Rattle.std.specs.Prelude.{OnOk};
 ghost use Rattle.std.specs.Option.{option_map};
 ghost use Rattle.po_lines.specs.Faults.{Gets, at_line};
 ghost use Rattle.po_lines.specs.Forms as forms;
-ghost use Rattle.po_lines.specs.Lines.{line_of, lines_behind};
+ghost use Rattle.po_lines.specs.Lines.{line_of, lines_behind, line_behind};
 ghost use Rattle.po_lines.specs.Reading.{read_each};
 ghost use Rattle.po_lines.specs.Words.{seen};
 ghost use Rattle.po_ir.specs.Grammar.{IsUnits};
@@ -22,8 +22,8 @@ use crate::state::State;
 use crate::unit::Unit;
 use crate::words::key;
 use po_lines::{
-    Line, Lines, Names, Word, end_column, ended_early, first_words, in_line, name_alone, no_more,
-    refused, same_text, says_nothing,
+    LIMIT, Line, Lines, Names, Word, end_column, ended_early, first_words, in_line, name_alone,
+    no_more, past_limit, refused, same_text, says_nothing,
 };
 use po_name::Name;
 use po_text::{Kind, Spot, TextRefusal};
@@ -253,12 +253,12 @@ fn read_lines<'a>(alloc: Global, lines: &mut Lines<'a>) -> Result<State, TextRef
     Ok(state)
 }
 
-/// The units of a text from a place on, or the first fault there.
+/// The units of a text from a place on that isn't too long, or the first fault there.
 #[tactic(auto, unfolding(crate::specs::Reading::units_in, crate::specs::Reading::finish))]
 fn units_of(alloc: Global, text: &[u8], at: Spot) -> Result<Items<Unit>, TextRefusal>
     requires within { at.offset ≤ length text.now }
     requires counted { at.line + length text.now < 2 ^ 32 }
-    ensures { Gets (λ us. us) result (reading.units_behind at text.now) }
+    ensures { Gets (λ us. us) result (reading.units_in (lines_behind at text.now) (line_behind at text.now)) }
 {
     let mut lines = Lines::behind(text, at);
     let state = match read_lines(alloc, &mut lines) {
@@ -271,17 +271,21 @@ fn units_of(alloc: Global, text: &[u8], at: Spot) -> Result<Items<Unit>, TextRef
     }
 }
 
-/// The units of a text from a place on, up to its end, or the first fault there (docs/STACK.md). `at` is where a line
-/// begins, or the text's end, and `at.line` and the text's length come to less than 2^32. What is read is allowed by
-/// the language. The time is linear in what is read.
+/// The units of a text from a place on, up to its end, or the first fault there (docs/STACK.md). A text of more than
+/// 4,194,304 bytes is TooMany at the first byte past them, whatever its lines say. `at` is where a line begins, or the
+/// text's end, and no more lines than bytes stand before it. What is read is allowed by the language. The time is
+/// linear in what is read.
 pub fn read_units(alloc: Global, text: &[u8], at: Spot) -> Result<Items<Unit>, TextRefusal>
     requires within { at.offset ≤ length text.now }
-    requires counted { at.line + length text.now < 2 ^ 32 }
+    requires counted { at.line ≤ at.offset + 1 }
     ensures gets { Gets (λ us. us) result (reading.units_behind at text.now) }
     ensures allowed { IfOk result (λ us. All IsUnit us) }
     ensures differ { IfOk result (λ us. NamesDiffer us) }
     ensures few { IfOk result (λ us. length us ≤ 65536) }
     ensures written { IfOk result (IsUnits (lines_behind at text.now)) }
 {
+    if text.len() > LIMIT {
+        return Err(past_limit(text, LIMIT));
+    }
     units_of(alloc, text, at)
 }

@@ -4,6 +4,7 @@ pub mod NameLaws
 -- Numbers
 pub mod NumberLaws
 -- Lines and their words
+pub mod LimitLaws
 pub mod LineCuts
 pub mod SpanBounds
 pub mod FirstWords

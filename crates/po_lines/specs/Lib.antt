@@ -1,4 +1,5 @@
 pub mod Faults
+pub mod Limit
 pub mod Lines
 pub mod Words
 pub mod Leaves

@@ -8,6 +8,7 @@
 mod fault;
 mod few;
 mod form;
+mod limit;
 mod line;
 mod lines;
 mod named;
@@ -22,6 +23,7 @@ pub use form::{
     end_column, first_word, keyword, name_alone, no_more, rest_words, same_text, says_nothing,
     word_number_alone,
 };
+pub use limit::{LIMIT, past_limit};
 pub use line::Line;
 pub use lines::{Lines, ended_early};
 pub use named::name;

@@ -31,10 +31,6 @@ keyword_again text w e =
     (nat_list_eq_equiv.refl w.bytes) in
     rw yes refl
 
--- these words say these names
-pub record Say (ws : List Placed) (names : List (List ℕ)) : Type 0 where
-  pub are : map bytes_of ws ≡ names
-
 name_here : (w : Placed) (name : List ℕ) → w.bytes ≡ name → is_name name ≡ true → name_in w ≡ Ok name
 name_here w name e h = name_again w (subst (λ (n : List ℕ). is_name n ≡ true) (sym e) h) ∙ ap Ok e
 

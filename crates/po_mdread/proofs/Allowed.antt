@@ -6,7 +6,7 @@ use Rattle.std.specs.List.{AllPairs, list_any}
 use Rattle.std.specs.Cmp.Lexicographic.{pointwise}
 use Rattle.std.proofs.lemmas.Bool.{false≢true}
 use Rattle.std.proofs.lemmas.Cmp.{nat_list_eq_equiv}
-use Rattle.std.proofs.lemmas.List.Elements.{All-cons}
+use Rattle.std.proofs.lemmas.List.Elements.{All-append, All-cons, All-nil}
 use Rattle.std.proofs.lemmas.List.Quantifiers.{all_pairs_push}
 use Rattle.po_text.specs.declared.fault.Spot.{Spot}
 use Rattle.po_name.specs.Names.{is_name}
@@ -18,6 +18,7 @@ use Rattle.po_lines.proofs.Results.{bind_ok, chosen, ok_is, not_ok}
 use Rattle.po_model.specs.declared.machine.Machine.{Machine}
 use Rattle.po_model.specs.Entries.{IsEntry}
 use Rattle.po_model.specs.Machines.{IsMachine}
+use Rattle.po_entry.proofs.Allowed.{entry_allowed}
 use Rattle.po_mdread.specs.declared.sofar.Sofar.{Sofar}
 use Rattle.po_mdread.specs.declared.sofar.Sofar.TheVariants.{ToMachine, ToFrame, ToResult, ToArgs, ToRegs, ToEntries}
 use Rattle.po_mdread.specs.declared.sofar.Sofar.TheVariants.{Ended}
@@ -62,12 +63,13 @@ named_more : (xs ys : List (List ℕ)) → AreNames xs → AreNames ys → AreNa
 named_more [] ys h g = g
 named_more (x ∷ xs) ys h g = (h.0, named_more xs ys h.1 g)
 
--- the numbers of names and entries are within the limits
+-- the numbers of names and entries are within the limits, and the entries are allowed
 pub record IsCounted (m : Machine) : Type 0 where
   pub four : length m.args ≡ 4
   pub some : 1 ≤ length m.regs
   pub few : length m.regs ≤ 64
   pub entries : length m.entries ≤ 512
+  pub each : All IsEntry m.entries
 
 abbrev Counted : Sofar → Type 0
 Counted ToMachine = ⊤
@@ -134,7 +136,13 @@ said_fine (ToRegs n a b c) l w ws t e h =
       own = h.own;
       named = named_more (a ∷ b ∷ c) f.0 h.named f.1.read.named;
       differ = subst Differ names (differ_new ws (a ∷ b ∷ c) f.3.names f.3.new h.differ);
-      counted = record { four = h.counted; some = f.2.some; few = f.2.few; entries = omega arith };
+      counted = record {
+        four = h.counted;
+        some = f.2.some;
+        few = f.2.few;
+        entries = omega arith;
+        each = All-nil IsEntry;
+      };
     })
 said_fine (ToEntries m) l w ws t e h = elim (entry_found m l w ws t e) [
   | inl f ↦ (let long = length-append m.entries (f.entry ∷ []) in
@@ -144,7 +152,14 @@ said_fine (ToEntries m) l w ws t e h = elim (entry_found m l w ws t e) [
         own = h.own;
         named = h.named;
         differ = h.differ;
-        counted = record { four = h.counted.four; some = h.counted.some; few = h.counted.few; entries = omega arith };
+        counted = record {
+          four = h.counted.four;
+          some = h.counted.some;
+          few = h.counted.few;
+          entries = omega arith;
+          each = All-append IsEntry m.entries (f.entry ∷ []) h.counted.each (All-cons IsEntry f.entry []
+              (entry_allowed l.bytes f.entry f.read) (All-nil IsEntry));
+        };
       }))
   | inr f ↦ subst IsFine (sym f.next) (record { own = h.own; named = h.named; differ = h.differ; counted = h.counted })
 ]
@@ -173,8 +188,8 @@ named_all : (xs : List (List ℕ)) → AreNames xs → All (λ n. IsTrue (is_nam
 named_all [] h = λ k d g. absurd (omega (arith, g))
 named_all (x ∷ xs) h = All-cons (λ n. IsTrue (is_name n)) x xs h.0 (named_all xs h.1)
 
-pub machine_is : (m : Machine) (at : Spot) → IsFine (Ended m at) → All IsEntry m.entries → IsMachine m
-machine_is m at f each =
+pub machine_is : (m : Machine) (at : Spot) → IsFine (Ended m at) → IsMachine m
+machine_is m at f =
     record {
       name = f.own.0;
       registers = named_all (names_sofar (Ended m at)) f.named;
@@ -183,5 +198,5 @@ machine_is m at f each =
       some = f.counted.some;
       few = f.counted.few;
       entries = f.counted.entries;
-      each = each;
+      each = f.counted.each;
     }

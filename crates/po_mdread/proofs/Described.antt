@@ -13,6 +13,8 @@ use Rattle.po_lines.specs.Words.{Placed, words_in}
 use Rattle.po_lines.proofs.WordLaws.{bytes_of}
 use Rattle.po_model.specs.declared.machine.Entry.{Entry}
 use Rattle.po_model.specs.declared.machine.Machine.{Machine}
+use Rattle.po_model.specs.Entries.{IsEntry}
+use Rattle.po_entry.proofs.ReadsLine.{entry_reads}
 use Rattle.po_mdread.specs.declared.sofar.Sofar.{Sofar}
 use Rattle.po_mdread.specs.declared.sofar.Sofar.TheVariants.{ToMachine, ToFrame, ToResult, ToArgs, ToRegs, ToEntries}
 use Rattle.po_mdread.specs.declared.sofar.Sofar.TheVariants.{Ended}
@@ -161,34 +163,35 @@ insn_step : (m : Machine) (l : Numbered) (e : Entry) (ws : List Placed) → word
 insn_step m l e [] is h here speaks = absurd h
 insn_step m l e (w ∷ ws) is h here speaks = (w, ws, is, h)
 
-entry_step : (m : Machine) (l : Numbered) (e : Entry) → IsInsnLine l e → length l.bytes ≤ 4096
+entry_step : (m : Machine) (l : Numbered) (e : Entry) → IsEntry e → IsInsnLine l e → length l.bytes ≤ 4096
     → says_nothing (words_in l.bytes) ≡ false → length m.entries < 512 → step (ToEntries m) l
     ≡ Ok (ToEntries (with_entry m e))
 unfolding some_line
-entry_step m l e h here speaks room =
+entry_step m l e allowed h here speaks room =
     let w = insn_step m l e (words_in l.bytes) refl h.first here speaks in
     said_step (ToEntries m) (ToEntries (with_entry m e)) l w.0 w.1 here w.2 (sym (ap says_nothing w.2) ∙ speaks) refl
-    (insn_again m l w.0 w.1 e w.3 h.entry room)
+    (insn_again m l w.0 w.1 e w.3 (entry_reads e l.bytes allowed h.written) room)
 
 pub entries_again : (es : List Entry) (insns : List Numbered) (m : Machine) (ls : List Numbered) (last : Numbered)
-    → AreShort ls → said_lines ls ≡ insns ++ last ∷ [] → AreInsnLines insns es
+    → AreShort ls → said_lines ls ≡ insns ++ last ∷ [] → AreInsnLines insns es → All IsEntry es
     → length m.entries + length es ≤ 512 → line_texts last ≡ codes "end" ∷ [] → read_each step (ToEntries m) ls
     ≡ Ok (Ended (with_entries m es) (behind last))
 unfolding some_line
-entries_again [] [] m ls last short e h few end =
+entries_again [] [] m ls last short e h each few end =
     let r = reach (ToEntries m) ls last [] short e in
     let one : step (ToEntries m) last ≡ Ok (Ended m (behind last)) = told (ToEntries m) (Ended m (behind last)) last
     (codes "end") [] r.here r.speaks refl end (λ w ws is none. end_again m last w ws is none) in
     r.read ∙ more_read (ToEntries m) (Ended m (behind last)) last r.more (Ok (Ended m (behind last))) one
     (rest_ended (Ended m (behind last)) r.more refl) ∙ ap (λ (n : Machine). Ok (Ended n (behind last)))
     (sym (no_entries m))
-entries_again [] (l ∷ ls) m lines last short e h few end = absurd h
-entries_again (x ∷ es) [] m lines last short e h few end = absurd h
-entries_again (x ∷ es) (l ∷ insns) m ls last short e h few end =
+entries_again [] (l ∷ ls) m lines last short e h each few end = absurd h
+entries_again (x ∷ es) [] m lines last short e h each few end = absurd h
+entries_again (x ∷ es) (l ∷ insns) m ls last short e h each few end =
     let r = reach (ToEntries m) ls l (insns ++ last ∷ []) short e in
-    let one = entry_step m l x h.0 r.here r.speaks (omega (arith, few)) in
+    let one = entry_step m l x (All-head IsEntry x es each) h.0 r.here r.speaks (omega (arith, few)) in
     let long = length-append m.entries (x ∷ []) in
-    let next = entries_again es insns (with_entry m x) r.more last r.short r.said h.1 (omega (arith, few)) end in
+    let next = entries_again es insns (with_entry m x) r.more last r.short r.said h.1
+    (All-tail IsEntry x es each) (omega (arith, few)) end in
     r.read ∙ more_read (ToEntries m) (ToEntries (with_entry m x)) l r.more
     (Ok (Ended (with_entries (with_entry m x) es) (behind last))) one next
     ∙ ap (λ (n : Machine). Ok (Ended n (behind last))) (more_entries m x es)
@@ -227,7 +230,7 @@ description_again lines m last d =
     ok.some ok.few (new_back (m.frame ∷ m.result ∷ []) m.args m.regs new.1)) in
     let most = ok.entries in
     let rest = entries_again m.entries d.insns (head_of m.name m.frame m.result m.args m.regs) i.more last i.short
-    (i.said ∙ no_heads i.heads tail i.lines) d.insn_lines (omega arith) d.end_line in
+    (i.said ∙ no_heads i.heads tail i.lines) d.insn_lines ok.each (omega arith) d.end_line in
     a.read ∙ b.read ∙ c.read ∙ g.read ∙ i.read ∙ rest
   where
     no_heads : (heads tail : List Numbered) → map line_texts heads ≡ [] → heads ++ tail ≡ tail

@@ -1,7 +1,7 @@
 -- What the names of a line are, where they are read.
 use Rattle.std.proofs.Common.{◌≡◌, ℕ, suc, ◌-◌, ◌≤◌, List, [], ◌∷◌, ◌++◌, true, Ok, refl, ap, sym, ◌∙◌, subst, length}
 use Rattle.std.proofs.Common.{take, drop, map, append_assoc, append-nil, arith, inl, inr}
-use Rattle.std.specs.Prelude.{nat_lt, ⊤, All}
+use Rattle.std.specs.Prelude.{nat_lt, ⊤}
 use Rattle.std.specs.List.{AllByRecursion}
 use Rattle.std.proofs.lemmas.Bool.Decides.{nat_tests}
 use Rattle.std.proofs.lemmas.List.{length-drop}
@@ -141,6 +141,3 @@ pub new_are : (names before : List (List ℕ)) (ws : List Placed) (all read : Li
     → with_new names ws ≡ Ok all → map bytes_of ws ≡ read → all ≡ before ++ read
 new_are names before ws all read h e f = new_found names ws all e ∙ ap (λ (ns : List (List ℕ)). names ++ ns) f
     ∙ ap (λ (ns : List (List ℕ)). ns ++ read) h
-
-pub all_none : {A : Type 0} (P : A → Type 0) → All P []
-all_none P k d h = absurd (omega (arith, h))

@@ -20,10 +20,6 @@ abbrev pub prepend : {A E : Type 0} → List A → Result (List A) E → Result 
 prepend front (Ok more) = Ok (front ++ more)
 prepend front (Err e) = Err e
 
-pub prepend_none : {A E : Type 0} (r : Result (List A) E) → prepend [] r ≡ r
-prepend_none (Ok more) = refl
-prepend_none (Err e) = refl
-
 one_more : (names : List (List ℕ)) (name : List ℕ) (r : Result (List (List ℕ)) LineFault)
     → prepend names (r >>= λ more. Ok (name ∷ more)) ≡ prepend (names ++ name ∷ []) r
 one_more names name (Ok more) = ap Ok (sym (append_assoc names (name ∷ []) more))

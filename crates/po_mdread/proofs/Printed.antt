@@ -1,12 +1,14 @@
 -- A printed machine is read again.
 use Rattle.std.proofs.Common.{◌≡◌, ℕ, ◌+◌, ◌≤◌, List, [], ◌∷◌, ◌++◌, false, Ok, refl, ap, ◌∙◌, subst, map, length}
-use Rattle.std.proofs.Common.{length-append, codes, arith}
+use Rattle.std.proofs.Common.{length-append, codes, arith, ◌*◌}
 use Rattle.std.specs.Prelude.{nat_eq}
+use Rattle.std.proofs.lemmas.List.{length-map}
 use Rattle.std.specs.List.{AllByRecursion, starts_with}
 use Rattle.po_text.specs.declared.fault.Spot.{Spot}
 use Rattle.po_lines.specs.Forms.{says_nothing}
 use Rattle.po_lines.specs.Lines.{Numbered, lines_behind, line_behind}
 use Rattle.po_lines.specs.Reading.{read_each}
+use Rattle.po_lines.proofs.LimitLaws.{within_is}
 use Rattle.po_lines.specs.Words.{Placed, words_in}
 use Rattle.po_lines.proofs.WordLaws.{IsSolid, bytes_of}
 use Rattle.po_model.specs.declared.machine.Entry.{Entry}
@@ -101,7 +103,7 @@ tail_is (e ∷ es) n o h =
       insns = line ∷ t.insns;
       last = t.last;
       cut = ap (λ (ls : List Numbered). line ∷ ls) t.cut;
-      are = (record { first = h.0.first; entry = h.0.again }, t.are);
+      are = (record { first = h.0.first; written = h.0.written }, t.are);
       end = t.end;
       speak = (insn_by (words_in (entry_text e)) h.0.first, t.speak);
       place = place_on t.last n o (length (entry_text e)) _ (length (map entry_text es ++ codes "end" ∷ []))
@@ -268,6 +270,33 @@ text_lines : (m : Machine) → AllByRecursion IsPlain (machine_lines m) → line
 unfolding machine_text
 text_lines m h = lines_again (machine_lines m) 1 0 h
 
+-- each of these lines with its line feed has so many bytes at most
+lines_fit : (ls : List (List ℕ)) → AllByRecursion (λ line. length line ≤ 4096) ls
+    → length (lines_text ls) ≤ 4097 * length ls
+lines_fit [] h = omega arith
+lines_fit (l ∷ ls) h =
+    let rest = lines_fit ls h.1 in
+    let own = h.0 in
+    let more = length-append (l ++ 10 ∷ []) (lines_text ls) in
+    let feed = length-append l (10 ∷ []) in
+    omega arith
+
+-- there are five head lines, one for each entry, and `end`
+lines_are : (m : Machine) → length (machine_lines m) ≡ length m.entries + 6
+unfolding machine_lines
+lines_are m =
+    let more = length-append (map entry_text m.entries) (codes "end" ∷ []) in
+    let same = length-map m.entries entry_text in
+    omega arith
+
+text_fits : (m : Machine) → IsPrintable m → length (machine_text m) ≤ 4194304
+unfolding machine_text
+text_fits m h =
+    let bytes = lines_fit (machine_lines m) h.short in
+    let lines = lines_are m in
+    let few = h.allowed.entries in
+    omega arith
+
 pub printed_again : (m : Machine) → IsPrintable m → machine_in (machine_text m) ≡ Ok (m, end_of_text m)
 printed_again m h =
     let named = names_by (m.frame ∷ m.result ∷ (m.args ++ m.regs)) h.allowed.registers in
@@ -275,5 +304,6 @@ printed_again m h =
     let l = listing m h named in
     let read = ap (read_each step ToMachine) lines ∙ description_again (numbered 1 0 (machine_lines m)) m l.last
     l.lines in
-    described_by m (behind l.last) (lines_behind start (machine_text m)) (line_behind start (machine_text m)) read
+    within_is (machine_text m) _ (text_fits m h)
+    ∙ described_by m (behind l.last) (lines_behind start (machine_text m)) (line_behind start (machine_text m)) read
     ∙ ap (λ (at : Spot). Ok (m, at)) l.place

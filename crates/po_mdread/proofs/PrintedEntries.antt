@@ -1,5 +1,5 @@
--- The line of an entry is read as that entry, begins with its word, and is plain.
-use Rattle.std.proofs.Common.{◌≡◌, ℕ, ◌+◌, ◌≤◌, ◌==◌, List, [], ◌∷◌, ◌++◌, Bool, true, false, Ok, refl, sym, ap}
+-- The line of an entry is written as that entry, begins with its word, and is plain.
+use Rattle.std.proofs.Common.{◌≡◌, ℕ, ◌+◌, ◌≤◌, ◌==◌, List, [], ◌∷◌, ◌++◌, Bool, true, false, refl, sym, ap}
 use Rattle.std.proofs.Common.{subst, map, All, codes, arith}
 use Rattle.std.specs.Prelude.{⊤, cond}
 use Rattle.std.specs.List.{AllByRecursion}
@@ -11,14 +11,14 @@ use Rattle.po_lines.specs.Words.{words_in}
 use Rattle.po_model.specs.declared.machine.Entry.{Entry}
 use Rattle.po_model.specs.Entries.{IsEntry}
 use Rattle.po_entry.specs.EntryText.{entry_text}
-use Rattle.po_entry.specs.Reading.{entry_in}
-use Rattle.po_entry.proofs.Again.{entry_again, entry_begins}
+use Rattle.po_entry.specs.Writing.{IsWritten}
+use Rattle.po_entry.proofs.Printed.{entry_printed, entry_begins}
 use Rattle.po_entry.proofs.Plain.{entry_plain}
 use Rattle.po_mdread.specs.Description.{BeginsWith}
 
--- an entry whose printed line is read as it again
+-- an entry whose printed line is written as it
 pub record IsReadAgain (e : Entry) : Type 0 where
-  pub again : entry_in (entry_text e) ≡ Ok e
+  pub written : IsWritten e (entry_text e)
   pub first : BeginsWith (codes "insn") (map (λ w. w.bytes) (words_in (entry_text e)))
   -- its bytes are blanks and what is no control character
   pub plain : AllByRecursion (λ b. 32 ≤ b) (entry_text e)
@@ -68,7 +68,7 @@ pub read_again : (e : Entry) → IsEntry e → IsReadAgain e
 read_again e h =
     let b = entry_begins e in
     record {
-      again = entry_again e h;
+      written = entry_printed e h;
       first = subst (λ (text : List ℕ). BeginsWith (codes "insn") (map (λ w. w.bytes) (words_in text))) (sym b.is)
           (begins b.others);
       plain = entry_plain e h;

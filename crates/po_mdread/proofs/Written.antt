@@ -1,7 +1,7 @@
 -- Lines that are read as a machine describe it.
 use Rattle.std.proofs.Common.{◌≡◌, ℕ, List, [], ◌∷◌, ◌++◌, false, Ok, refl, ap, sym, ◌∙◌, subst, map, codes}
 use Rattle.std.proofs.Common.{append_assoc, inl, inr}
-use Rattle.std.specs.Prelude.{⊤, All}
+use Rattle.std.specs.Prelude.{⊤}
 use Rattle.std.proofs.lemmas.Bool.{false≢true}
 use Rattle.po_text.specs.declared.fault.Spot.{Spot}
 use Rattle.po_lines.specs.Forms.{says_nothing}
@@ -12,7 +12,7 @@ use Rattle.po_lines.proofs.Results.{bind_ok, ok_is, not_ok}
 use Rattle.po_lines.proofs.WordLaws.{bytes_of}
 use Rattle.po_model.specs.declared.machine.Entry.{Entry}
 use Rattle.po_model.specs.declared.machine.Machine.{Machine}
-use Rattle.po_model.specs.Entries.{IsEntry}
+use Rattle.po_entry.proofs.Written.{entry_written}
 use Rattle.po_mdread.specs.declared.sofar.Sofar.{Sofar}
 use Rattle.po_mdread.specs.declared.sofar.Sofar.TheVariants.{ToMachine, ToFrame, ToResult, ToArgs, ToRegs, ToEntries}
 use Rattle.po_mdread.specs.declared.sofar.Sofar.TheVariants.{Ended}
@@ -216,7 +216,10 @@ said_written (ToRegs n a b c) t l ls m end going p read more =
     )
 said_written (ToEntries k) t l ls m end going p read more = elim (entry_found k l p.first p.others t p.told) [
   | inl f ↦ with_insn k f.entry l ls m end p.short (ap says_nothing p.words ∙ p.said)
-      (record { first = begins_with l p.first p.others p.words f.first; entry = f.read })
+      (record {
+        first = begins_with l p.first p.others p.words f.first;
+        written = entry_written l.bytes f.entry f.read;
+      })
       (subst (λ (r : Sofar). IsWritten r ls m end) f.next (more (ap has_ended f.next)))
   | inr f ↦ with_end k l ls m end p.short (ap says_nothing p.words ∙ p.said)
       (texts_are l p.first p.others (codes "end") [] p.words f.first (ap (map bytes_of) f.alone))
@@ -247,13 +250,10 @@ finished n (Ended k spot) m at e =
     let same : ◌≡◌ {A = Machine × Spot} (k, spot) (m, at) = ok_is e in
     ap (λ (p : Machine × Spot). Ended p.0 p.1) same
 
-pub read_describes : (ls : List Numbered) (n : ℕ) (m : Machine) (at : Spot) → described ls n ≡ Ok (m, at)
-    → All IsEntry m.entries → BeginWith ls m at
-unfolding described
-read_describes ls n m at e each =
-    let first = bind_ok (read_each step ToMachine ls) (λ (s : Sofar). finish n s) (m, at) e in
-    let is = finished n first.0 m at first.2 in
-    let read : read_each step ToMachine ls ≡ Ok (Ended m at) = first.1 ∙ ap Ok is in
+-- lines that are read to the end of a machine begin with its description
+pub read_begins : (ls : List Numbered) (m : Machine) (at : Spot) → read_each step ToMachine ls ≡ Ok (Ended m at)
+    → BeginWith ls m at
+read_begins ls m at read =
     let w = written ls ToMachine m at refl read in
     record {
       front = w.front ++ w.last ∷ [];
@@ -270,10 +270,18 @@ read_describes ls n m at e each =
         head_lines = w.head_lines;
         insn_lines = subst (λ (es : List Entry). AreInsnLines w.insns es) (sym w.completes) w.insn_lines;
         end_line = w.end_line;
-        allowed = machine_is m at (each_fine ls ToMachine (Ended m at) read none_fine) each;
+        allowed = machine_is m at (each_fine ls ToMachine (Ended m at) read none_fine);
       };
       place = w.place;
     }
+
+pub read_describes : (ls : List Numbered) (n : ℕ) (m : Machine) (at : Spot) → described ls n ≡ Ok (m, at)
+    → BeginWith ls m at
+unfolding described
+read_describes ls n m at e =
+    let first = bind_ok (read_each step ToMachine ls) (λ (s : Sofar). finish n s) (m, at) e in
+    let is = finished n first.0 m at first.2 in
+    read_begins ls m at (first.1 ∙ ap Ok is)
 
 all_then : (xs ys : List Numbered) (s t : Sofar) → read_each step s xs ≡ Ok t → read_each step s (xs ++ ys)
     ≡ read_each step t ys

@@ -1,5 +1,5 @@
 -- The lines that describe a machine, by their forms. Lines that say nothing may stand between them.
-use Rattle.std.specs.Prelude.{◌≡◌, ◌≤◌, ℕ, List, [], ◌∷◌, ◌++◌, length, map, filter, not, codes, Ok, ⊤}
+use Rattle.std.specs.Prelude.{◌≡◌, ◌≤◌, ℕ, List, [], ◌∷◌, ◌++◌, length, map, filter, not, codes, ⊤}
 use Rattle.std.specs.List.{AllByRecursion}
 use Rattle.po_text.specs.declared.fault.Spot.{Spot}
 use Rattle.po_lines.specs.Forms.{says_nothing}
@@ -8,7 +8,7 @@ use Rattle.po_lines.specs.Words.{words_in}
 use Rattle.po_model.specs.declared.machine.Entry.{Entry}
 use Rattle.po_model.specs.declared.machine.Machine.{Machine}
 use Rattle.po_model.specs.Machines.{IsMachine}
-use Rattle.po_entry.specs.Reading.{entry_in}
+use Rattle.po_entry.specs.Writing.{IsWritten}
 use Rattle.po_mdread.specs.Reading.{behind}
 
 -- the lines that say something
@@ -23,10 +23,10 @@ abbrev pub BeginsWith : List ℕ → List (List ℕ) → Type 0
 BeginsWith text [] = ⊥
 BeginsWith text (first ∷ others) = first ≡ text
 
--- an `insn` line that is read as this entry
+-- an `insn` line that is written as this entry may be
 pub record IsInsnLine (l : Numbered) (e : Entry) : Type 0 where
   pub first : BeginsWith (codes "insn") (line_texts l)
-  pub entry : entry_in l.bytes ≡ Ok e
+  pub written : IsWritten e l.bytes
 
 -- such a line for each of these entries, in order
 abbrev pub AreInsnLines : List Numbered → List Entry → Type 0

@@ -1,5 +1,5 @@
 -- What the lines of a description say of its machine, one behind the other, or the first fault that a line decides.
-use Rattle.std.specs.Prelude.{◌≡◌, ℕ, ◌+◌, ◌≤◌, List, [], ◌∷◌, ◌++◌, length, All, codes, Bool, true, false, ◌==◌}
+use Rattle.std.specs.Prelude.{◌≡◌, ℕ, ◌+◌, ◌≤◌, List, [], ◌∷◌, ◌++◌, length, codes, Bool, true, false, ◌==◌}
 use Rattle.std.specs.Prelude.{if◌then◌else◌, Result, Ok, Err}
 use Rattle.po_text.specs.declared.fault.Kind.TheVariants as kind
 use Rattle.po_text.specs.declared.fault.Spot.{Spot}
@@ -7,12 +7,12 @@ use Rattle.po_lines.specs.declared.fault.LineFault.{LineFault}
 use Rattle.po_lines.specs.Faults.{◌>>=◌, fault, TextFault, text_fault, at_line}
 use Rattle.po_lines.specs.Forms.{says_nothing, no_more, name_alone}
 use Rattle.po_lines.specs.Leaves.{keyword_in, same}
+use Rattle.po_lines.specs.Limit.{within_limit}
 use Rattle.po_lines.specs.Lines.{Numbered, lines_behind, line_behind}
 use Rattle.po_lines.specs.Reading.{read_each}
 use Rattle.po_lines.specs.Words.{Placed, line_words}
 use Rattle.po_model.specs.declared.machine.Entry.{Entry}
 use Rattle.po_model.specs.declared.machine.Machine.{Machine}
-use Rattle.po_model.specs.Entries.{IsEntry}
 use Rattle.po_entry.specs.Reading.{entry_in}
 use Rattle.po_mdread.specs.declared.sofar.Sofar.{Sofar}
 use Rattle.po_mdread.specs.declared.sofar.Sofar.TheVariants.{ToMachine, ToFrame, ToResult, ToArgs, ToRegs, ToEntries}
@@ -154,9 +154,10 @@ described ls line = do
 abbrev pub start : Spot
 start = record { offset = 0; line = 1 }
 
--- the machine that a text begins with, and the place behind its `end`, or the first fault
+-- the machine that a text begins with, and the place behind its `end`, or the first fault; a text that is too long has
+-- that fault before any of a line
 abbrev pub machine_in : List ℕ → Result (Machine × Spot) TextFault
-machine_in text = described (lines_behind start text) (line_behind start text)
+machine_in text = within_limit text (described (lines_behind start text) (line_behind start text))
 
 -- a place behind some of the lines of a text
 pub record IsSpotIn (text : List ℕ) (at : Spot) : Type 0 where
@@ -166,17 +167,6 @@ pub record IsSpotIn (text : List ℕ) (at : Spot) : Type 0 where
   pub front : List Numbered
   pub cut : lines_behind start text ≡ front ++ lines_behind at text
 
--- the entries so far
-abbrev pub entries_sofar : Sofar → List Entry
-entries_sofar ToMachine = []
-entries_sofar (ToFrame name) = []
-entries_sofar (ToResult name frame) = []
-entries_sofar (ToArgs name frame result) = []
-entries_sofar (ToRegs name frame result args) = []
-entries_sofar (ToEntries m) = m.entries
-entries_sofar (Ended m at) = m.entries
-
--- what the code keeps beside what was read
-pub record IsState (s : State) : Type 0 where
-  pub names : s.names ≡ names_sofar s.sofar
-  pub entries : All IsEntry (entries_sofar s.sofar)
+-- what the code keeps beside what was read: the names
+abbrev pub IsState : State → Type 0
+IsState s = s.names ≡ names_sofar s.sofar

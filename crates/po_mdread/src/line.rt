@@ -1,10 +1,9 @@
 //! What a line says, behind what was read so far. `end` is the column behind the line's last byte.
 
-ghost use Rattle.std.specs.Prelude.{◌≡◌, ◌∷◌, [], ◌++◌, ◌≤◌, ◌+◌, ◌<◌, length, map, All, IfOk};
+ghost use Rattle.std.specs.Prelude.{◌≡◌, ◌∷◌, [], ◌++◌, ◌≤◌, ◌+◌, ◌<◌, length, map, IfOk};
 ghost use Rattle.po_lines.specs.Faults.{Gives, Tells};
 ghost use Rattle.po_lines.specs.Lines.{line_of};
 ghost use Rattle.po_lines.specs.Words.{seen};
-ghost use Rattle.po_model.specs.Entries.{IsEntry};
 ghost use Rattle.po_mdread.specs.Reading as reading;
 ghost use Rattle.po_mdread.specs.Reading.{IsState};
 
@@ -152,10 +151,8 @@ pub fn regs_line(
 #[tactic(auto, unfolding(crate::specs::Reading::insn_line))]
 fn insn_line(alloc: Global, machine: Machine, line: &Line) -> Result<Sofar, LineError>
     requires short { length line.now.bytes.now ≤ 4096 }
-    requires entries { All IsEntry machine.entries }
     ensures gives { Gives (λ s. s) result (reading.insn_line machine (line_of line.now)) }
     ensures names { IfOk result (λ s. reading.names_sofar s ≡ reading.names_sofar (Sofar.ToEntries machine)) }
-    ensures entries { IfOk result (λ s. All IsEntry (reading.entries_sofar s)) }
 {
     if machine.entries.len() == 512 {
         return Err(fault_at(1, Kind::TooMany));
@@ -179,10 +176,8 @@ fn behind(line: &Line) -> Spot
 /// `end`, and no further word.
 #[tactic(auto, unfolding(crate::specs::Reading::end_line))]
 fn end_line(machine: Machine, line: &Line, rest: &[Word]) -> Result<Sofar, LineFault>
-    requires { All IsEntry machine.entries }
     ensures gives { Tells (λ s. s) result (reading.end_line machine (line_of line.now) (map seen rest.now)) }
     ensures names { IfOk result (λ s. reading.names_sofar s ≡ reading.names_sofar (Sofar.ToEntries machine)) }
-    ensures entries { IfOk result (λ s. All IsEntry (reading.entries_sofar s)) }
 {
     no_more(rest)?;
     Ok(Sofar::Ended(machine, behind(line)))
@@ -198,11 +193,9 @@ pub fn entry_line(
     rest: &[Word],
 ) -> Result<Sofar, LineError>
     requires short { length line.now.bytes.now ≤ 4096 }
-    requires entries { All IsEntry machine.entries }
     ensures gives { Gives (λ s. s) result (reading.entry_line machine (line_of line.now) (seen first.now)
         (map seen rest.now)) }
     ensures names { IfOk result (λ s. reading.names_sofar s ≡ reading.names_sofar (Sofar.ToEntries machine)) }
-    ensures entries { IfOk result (λ s. All IsEntry (reading.entries_sofar s)) }
 {
     if same_text(first.bytes, b"insn") {
         return insn_line(alloc, machine, line);

@@ -1,19 +1,20 @@
 //! The description of a text: one line behind the other, and what was read so far as a value.
 
-ghost use Rattle.std.specs.Prelude.{◌≡◌, ◌≤◌, ◌+◌, ◌<◌, ◌-◌, ◌^◌, length, map, All, IfOk, false};
+ghost use Rattle.std.specs.Prelude.{◌≡◌, ◌≤◌, ◌+◌, ◌<◌, ◌-◌, ◌^◌, length, map, IfOk, false};
 ghost use Rattle.po_lines.specs.Faults.{Gives, Gets};
-ghost use Rattle.po_lines.specs.Lines.{line_of};
+ghost use Rattle.po_lines.specs.Lines.{line_of, lines_behind, line_behind};
 ghost use Rattle.po_lines.specs.Reading.{read_each};
 ghost use Rattle.po_lines.specs.Words.{seen};
-ghost use Rattle.po_model.specs.Entries.{IsEntry};
 ghost use Rattle.po_model.specs.Machines.{IsMachine};
+ghost use Rattle.po_mdread.specs.Description.{BeginWith};
 ghost use Rattle.po_mdread.specs.Reading as reading;
 ghost use Rattle.po_mdread.specs.Reading.{IsState};
 
 use crate::line::{args_line, entry_line, frame_line, machine_line, regs_line, result_line};
 use crate::sofar::{Sofar, State};
 use po_lines::{
-    Line, LineError, Lines, Names, Word, end_column, ended_early, in_line, line_words, says_nothing,
+    LIMIT, Line, LineError, Lines, Names, Word, end_column, ended_early, in_line, line_words,
+    past_limit, says_nothing,
 };
 use po_model::Machine;
 use po_text::{Spot, TextRefusal};
@@ -113,7 +114,6 @@ fn read_lines(alloc: Global, lines: &mut Lines) -> Result<Sofar, TextRefusal>
     ensures gets { Gets (λ s. s) result (read_each reading.step Sofar.ToMachine lines.old.lines) }
     ensures number { IfOk result (λ s. reading.has_ended s ≡ false → lines.new.line ≡ lines.old.line + length
         lines.old.lines) }
-    ensures entries { IfOk result (λ s. All IsEntry (reading.entries_sofar s)) }
 {
     let mut state = State {
         sofar: Sofar::ToMachine,
@@ -131,13 +131,14 @@ fn read_lines(alloc: Global, lines: &mut Lines) -> Result<Sofar, TextRefusal>
     Ok(state.sofar)
 }
 
-/// The machine that a text begins with, and the place behind its line `end`, or the first fault there
-/// (docs/DESCRIPTION.md). The text has fewer than 2^32 - 1 bytes. The time is linear in what is read.
+/// The machine that a text begins with that isn't too long, or the first fault there.
 #[tactic(auto, unfolding(crate::specs::Reading::described, crate::specs::Reading::finish))]
-pub fn read_machine(alloc: Global, text: &[u8]) -> Result<(Machine, Spot), TextRefusal>
+fn machine_of(alloc: Global, text: &[u8]) -> Result<(Machine, Spot), TextRefusal>
     requires { length text.now < 2 ^ 32 - 1 }
-    ensures gets { Gets (λ r. r) result (reading.machine_in text.now) }
+    ensures gets { Gets (λ r. r) result
+        (reading.described (lines_behind reading.start text.now) (line_behind reading.start text.now)) }
     ensures allowed { IfOk result (λ r. IsMachine r.0) }
+    ensures written { IfOk result (λ r. BeginWith (lines_behind reading.start text.now) r.0 r.1) }
     ensures spot { IfOk result (λ r. reading.IsSpotIn text.now r.1) }
 {
     let mut lines = Lines::behind(text, Spot { offset: 0, line: 1 });
@@ -154,4 +155,19 @@ pub fn read_machine(alloc: Global, text: &[u8]) -> Result<(Machine, Spot), TextR
         | Sofar::ToRegs(_, _, _, _)
         | Sofar::ToEntries(_) => Err(ended_early(&lines)),
     }
+}
+
+/// The machine that a text begins with, and the place behind its line `end`, or the first fault there
+/// (docs/DESCRIPTION.md). A text of more than 4,194,304 bytes is TooMany at the first byte past them, whatever its
+/// lines say. The time is linear in what is read.
+pub fn read_machine(alloc: Global, text: &[u8]) -> Result<(Machine, Spot), TextRefusal>
+    ensures gets { Gets (λ r. r) result (reading.machine_in text.now) }
+    ensures allowed { IfOk result (λ r. IsMachine r.0) }
+    ensures written { IfOk result (λ r. BeginWith (lines_behind reading.start text.now) r.0 r.1) }
+    ensures spot { IfOk result (λ r. reading.IsSpotIn text.now r.1) }
+{
+    if text.len() > LIMIT {
+        return Err(past_limit(text, LIMIT));
+    }
+    machine_of(alloc, text)
 }

@@ -5,3 +5,4 @@ pub mod Clobbers
 pub mod Limits
 pub mod Passed
 pub mod Longest
+pub mod Chains

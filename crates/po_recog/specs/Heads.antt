@@ -88,7 +88,7 @@ pat_moves_head ps = list_head pat_move_head ps
 abbrev pub entry_head : Entry → Head
 entry_head e = pat_moves_head (pat_moves_of e.pattern)
 
--- the number of a form, below 1024
+-- the number of a form, below 16
 abbrev pub form_number : Form → ℕ
 form_number form.Num = 0
 form_number form.Reg = 1
@@ -99,7 +99,7 @@ form_number (form.Bin o) = 6 + bin_place o
 
 -- the number of this kind of transfers, with terms of these forms
 abbrev pub two_number : ℕ → Form → Form → ℕ
-two_number kind f g = (kind * 1024 + form_number f) * 1024 + form_number g
+two_number kind f g = (kind * 16 + form_number f) * 16 + form_number g
 
 -- the number of a head
 abbrev pub head_number : Head → ℕ

@@ -41,26 +41,29 @@ pub(crate) enum Head {
 }
 
 fn un_place(o: Un) -> u8
-    ensures { result ≡ un_place o }
+    ensures place { result ≡ un_place o }
+    ensures small { result < 2 }
 {
     o as u8
 }
 
 fn bin_place(o: Bin) -> u8
-    ensures { result ≡ bin_place o }
+    ensures place { result ≡ bin_place o }
+    ensures small { result < 9 }
 {
     o as u8
 }
 
 fn rel_place(r: Rel) -> u8
-    ensures { result ≡ rel_place r }
+    ensures place { result ≡ rel_place r }
+    ensures small { result < 8 }
 {
     r as u8
 }
 
 fn form_number(f: Form) -> u32
     ensures number { result ≡ form_number f }
-    ensures small { result < 1024 }
+    ensures small { result < 16 }
 {
     match f {
         Form::Num => 0,
@@ -74,15 +77,17 @@ fn form_number(f: Form) -> u32
 
 /// The number of this kind of transfers, with terms of these forms.
 fn two_number(kind: u32, f: Form, g: Form) -> u32
-    requires { kind < 8 }
-    ensures { result ≡ two_number kind f g }
+    requires { kind < 5 }
+    ensures number { result ≡ two_number kind f g }
+    ensures small { result < 1280 }
 {
-    (kind * 1024 + form_number(f)) * 1024 + form_number(g)
+    (kind * 16 + form_number(f)) * 16 + form_number(g)
 }
 
 /// The number of a head.
 pub(crate) fn number_of(h: Head) -> u32
-    ensures { result ≡ head_number h }
+    ensures number { result ≡ head_number h }
+    ensures small { result < 1280 }
 {
     match h {
         Head::Nothing => 0,

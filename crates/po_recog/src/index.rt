@@ -1,6 +1,6 @@
-//! An index of a machine's entries: the head of each, made once, so that an entry with another head is passed over
-//! without a look at its pattern. Entries are still tried in order.
-ghost use Rattle.std.specs.Prelude.{◌≡◌, ◌<◌, ◌^◌, ◌++◌, ◌∷◌, [], length, map, max, IfOk, OnOk, is_some};
+//! An index of a machine's entries, made once: the entries of each head are linked, first to last, so that those with
+//! another head are passed over without a look. Entries are still tried in order.
+ghost use Rattle.std.specs.Prelude.{◌≡◌, ◌<◌, ◌==◌, ◌^◌, ℕ, length, max, IfOk, OnOk, is_some, if◌then◌else◌};
 ghost use Rattle.std.specs.Option.{option_map};
 ghost use Rattle.po_term.specs.Moves.{moves_of};
 ghost use Rattle.po_term.specs.Kinds.{words};
@@ -9,7 +9,7 @@ ghost use Rattle.po_model.specs.Parts.{code_leaves};
 ghost use Rattle.po_recog.specs.Operands.{operands_in, fit_from, fit_of};
 ghost use Rattle.po_recog.specs.Taken.{outcome};
 ghost use Rattle.po_recog.specs.Heads.{entry_number, list_number};
-ghost use Rattle.po_recog.specs.Indexes.{IsIndexOf, most_transfers, found_with};
+ghost use Rattle.po_recog.specs.Indexes.{IsIndexOf, most_transfers, found_with, first_with, links, number_at, heads};
 
 use crate::head::{head_of, head_of_pattern, number_of};
 use crate::walk::takes_moves;
@@ -19,21 +19,70 @@ use po_term::Transfer;
 use po_word::{OutOfMemory, push};
 use std::alloc::Global;
 
-/// The heads of a machine's entries, and how many transfers the longest has (docs/DESCRIPTION.md, "What fits").
+/// How many numbers of heads there are.
+const HEADS: usize = 1280;
+
+/// The entries of each head, and how many transfers the longest entry has (docs/DESCRIPTION.md, "What fits").
 #[derive(Drop)]
 pub struct Index {
-    heads: Vec<u32>,
+    /// By number of a head, the first entry that has it. Where none has, how many entries there are.
+    firsts: Vec<usize>,
+    /// By entry, the next one that has its head. Where none has, how many entries there are.
+    nexts: Vec<usize>,
     most: usize,
 }
 
-fn heads_of(alloc: Global, entries: &[Entry]) -> Result<Vec<u32>, OutOfMemory>
-    ensures { IfOk result (λ heads. heads.items ≡ map entry_number entries.now) }
+/// The number at a place, and 0 behind the end.
+fn number_at(numbers: &[usize], place: usize) -> usize
+    ensures { result ≡ number_at numbers.now place }
 {
-    let mut heads = Vec::new(alloc);
-    for e in entries {
-        push(&mut heads, number_of(head_of_pattern(e.pattern.as_slice())))?;
+    numbers.get(place).copied().unwrap_or(0)
+}
+
+/// Puts a number at a place.
+fn put_number(numbers: &mut [usize], place: usize, number: usize)
+    requires { place < length numbers.old }
+    ensures numbers { (k : ℕ) → number_at numbers.new k
+        ≡ (if place == k then number else number_at numbers.old k) }
+    ensures len { length numbers.new ≡ length numbers.old }
+{
+    numbers[place] = number;
+}
+
+/// The number of an entry's head.
+fn entry_number(e: &Entry) -> usize
+    ensures number { result ≡ entry_number e.now }
+    ensures small { result < 1280 }
+{
+    number_of(head_of_pattern(e.pattern.as_slice())) as usize
+}
+
+/// Links each entry to the next of its head, from the last one back, and leaves the first of each head in `firsts`.
+fn linked(alloc: Global, entries: &[Entry], firsts: &mut [usize]) -> Result<Vec<usize>, OutOfMemory>
+    requires heads { length firsts.old ≡ 1280 }
+    requires none { (g : ℕ) → g < heads → number_at firsts.old g ≡ length entries.now }
+    ensures firsts { OnOk result ((g : ℕ) → g < heads → number_at firsts.new g ≡ first_with g entries.now 0) }
+    ensures nexts { IfOk result (λ nexts. nexts.items ≡ links entries.now 0) }
+{
+    let mut nexts = Vec::with_capacity(alloc, entries.len())?;
+    let mut i = entries.len();
+    while i > 0 {
+        i -= 1;
+        let head = entry_number(&entries[i]);
+        nexts.push(number_at(firsts, head))?;
+        put_number(firsts, head, i);
     }
-    Ok(heads)
+    nexts.reverse();
+    Ok(nexts)
+}
+
+/// As many times the number of entries as there are heads.
+fn no_firsts(alloc: Global, entries: usize) -> Result<Vec<usize>, OutOfMemory>
+    ensures len { IfOk result (λ firsts. length firsts.items ≡ 1280) }
+    ensures none { IfOk result (λ firsts. (g : ℕ) → g < heads → number_at firsts.items g ≡ entries) }
+{
+    let firsts = vec![in alloc; entries; HEADS]?;
+    Ok(firsts)
 }
 
 fn larger(m: usize, n: usize) -> usize
@@ -58,9 +107,15 @@ impl Index {
     pub fn new(alloc: Global, m: &Machine) -> Result<Index, OutOfMemory>
         ensures { IfOk result (λ index. IsIndexOf m.now index) }
     {
-        let heads = heads_of(alloc, m.entries.as_slice())?;
-        let most = most_of(m.entries.as_slice());
-        Ok(Index { heads, most })
+        let entries = m.entries.as_slice();
+        let mut firsts = no_firsts(alloc, entries.len())?;
+        let nexts = linked(alloc, entries, &mut firsts)?;
+        let most = most_of(entries);
+        Ok(Index {
+            firsts,
+            nexts,
+            most,
+        })
     }
 
     /// How many transfers the longest entry has: no entry fits a list of more (docs/DESCRIPTION.md, "What fits").
@@ -84,43 +139,26 @@ fn fills(e: &Entry, xs: &[Transfer], cc_live: bool, slots: &mut [Option<Operand>
     takes_moves(e.pattern.as_slice(), xs, slots)
 }
 
-/// The same as `fills`, where h is the number of the entry's head and g that of the list's.
-fn fills_by(
-    e: &Entry,
-    h: u32,
-    g: u32,
-    xs: &[Transfer],
-    cc_live: bool,
-    slots: &mut [Option<Operand>; 10],
-) -> bool
-    requires entry { h ≡ entry_number e.now }
-    requires list { g ≡ list_number (moves_of xs.now) }
-    ensures { outcome result slots.new
-        ≡ option_map operands_in (entry_fit code_leaves words cc_live e.now (moves_of xs.now)).got }
-{
-    h == g && fills(e, xs, cc_live, slots)
-}
-
 /// The number of the first entry that fits, with its operands in the slots.
 fn first_by(
     entries: &[Entry],
-    heads: &[u32],
+    index: &Index,
     xs: &[Transfer],
     cc_live: bool,
     slots: &mut [Option<Operand>; 10],
 ) -> Option<u32>
     requires few { length entries.now < 2 ^ 32 }
-    requires heads { heads.now ≡ map entry_number entries.now }
+    requires firsts { (g : ℕ) → g < heads → number_at index.now.firsts.items g ≡ first_with g entries.now 0 }
+    requires nexts { index.now.nexts.items ≡ links entries.now 0 }
     ensures { found_with result slots.new
         ≡ option_map fit_from (first_fit code_leaves words cc_live entries.now 0 (moves_of xs.now)).got }
 {
-    let head = number_of(head_of(xs));
-    let mut number = 0;
-    for e in entries {
-        if fills_by(e, heads[number as usize], head, xs, cc_live, slots) {
-            return Some(number);
+    let mut next = number_at(&index.firsts, number_of(head_of(xs)) as usize);
+    while next < entries.len() {
+        if fills(&entries[next], xs, cc_live, slots) {
+            return Some(next as u32);
         }
-        number += 1;
+        next = number_at(&index.nexts, next);
     }
     None
 }
@@ -138,7 +176,7 @@ pub fn recognise_in(
     requires index { IsIndexOf m.now index.now }
     ensures { found_with result slots.new ≡ option_map fit_from (fit m.now cc_live (moves_of xs.now)) }
 {
-    first_by(m.entries.as_slice(), &index.heads, xs, cc_live, slots)
+    first_by(m.entries.as_slice(), index, xs, cc_live, slots)
 }
 
 /// `recognise` by an index of the machine (docs/DESCRIPTION.md, "What fits").
@@ -188,5 +226,5 @@ pub fn is_recognised_by(m: &Machine, index: &Index, xs: &[Transfer], cc_live: bo
     ensures { result ≡ is_some (fit m.now cc_live (moves_of xs.now)) }
 {
     let mut slots = [None; 10];
-    first_by(m.entries.as_slice(), &index.heads, xs, cc_live, &mut slots).is_some()
+    first_by(m.entries.as_slice(), index, xs, cc_live, &mut slots).is_some()
 }

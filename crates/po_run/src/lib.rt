@@ -12,6 +12,7 @@ mod sampled;
 mod serial;
 mod threads;
 
+pub use notes::tell;
 pub use po_compile::{
     Status, modes_make_one_code, placed_slowed_runs_alike, texts_have_one_output,
 };

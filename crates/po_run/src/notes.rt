@@ -191,8 +191,8 @@ fn push_all<N: Sink>(
     Ok(())
 }
 
-/// Tells a status, and the counts of a run where there are some. A fault of the notes changes nothing; where they
-/// don't fail, they grow by exactly these lines.
+/// Tells a status, and the counts of a run where there are some. It takes no memory. A fault of the notes changes
+/// nothing; where they don't fail, they grow by exactly these lines (docs/PROGRAM.md, "Statuses").
 pub fn tell<N: Sink>(notes: &mut N, status: Status, counts: Option<Counts>)
     ensures { N.faults notes.new ≡ N.faults notes.old → N.faults notes.old < 2 ^ 64 - 1
         → N.kept notes.new ≡ after_known (N.kept notes.old) (note_line status ++ stats_text counts) }

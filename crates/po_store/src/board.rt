@@ -1,9 +1,10 @@
 //! The writer that shows readers one version after another.
-ghost use Rattle.std.specs.Prelude.{◌≡◌, [], ◌∷◌, ◌++◌, drop, fold, IsSome, IfSome};
+ghost use Rattle.std.specs.Prelude.{◌≡◌, [], ◌∷◌, ◌++◌, drop, fold, IsSome, IfSome, IfOk};
 
 use crate::edition::Whole;
 use crossbeam_utils::rule::Unruled;
 use left_right::writer::Writer;
+use po_word::OutOfMemory;
 use std::sync::Wait;
 use std::thread;
 
@@ -53,6 +54,38 @@ impl<V: Whole, R: Wait + Drop> Board<V, R> {
     }
 }
 
+/// The writer with room for two versions that readers don't see yet, which is all that a board keeps, so no later
+/// version needs memory. It shows the second of these two, and nothing is behind it.
+pub(crate) fn with_room<V: Whole, R: Wait>(
+    rt: &R,
+    writer: Inner<V>,
+    one: V,
+    two: V,
+) -> Result<Inner<V>, OutOfMemory>
+    ensures shown { IfOk result (λ w. w.desk.shown.value ≡ two) }
+    ensures pending { IfOk result (λ w. drop w.behind w.log.items ≡ []) }
+{
+    let first = put(rt, writer, one)?;
+    let both = put(rt, first, two)?;
+    let shown = publish(rt, both);
+    // The second time the copy that isn't shown comes up with the other, and the room is free.
+    let free = publish(rt, shown);
+    Ok(free)
+}
+
+/// Puts this version behind what readers don't see yet, or ends the writer where memory is refused.
+fn put<V: Whole, R: Wait>(rt: &R, mut writer: Inner<V>, version: V) -> Result<Inner<V>, OutOfMemory>
+    ensures shown { IfOk result (λ w. w.desk.shown.value ≡ writer.desk.shown.value) }
+    ensures pending { IfOk result
+        (λ w. drop w.behind w.log.items ≡ drop writer.behind writer.log.items ++ version ∷ []) }
+{
+    if writer.append(version).is_err() {
+        drop(writer.take(rt));
+        return Err(OutOfMemory);
+    }
+    Ok(writer)
+}
+
 /// Puts this version behind what readers don't see yet.
 fn append<V: Whole, R: Wait>(rt: &R, mut writer: Inner<V>, version: V) -> Inner<V>
     ensures shown { result.desk.shown.value ≡ writer.desk.shown.value }
@@ -71,8 +104,9 @@ fn append<V: Whole, R: Wait>(rt: &R, mut writer: Inner<V>, version: V) -> Inner<
 
 /// Shows readers all that they don't see yet.
 fn publish<V: Whole, R: Wait>(rt: &R, writer: Inner<V>) -> Inner<V>
-    ensures { V.state result.desk.shown.value
+    ensures shown { V.state result.desk.shown.value
         ≡ fold V.applied (V.state writer.desk.shown.value) (drop writer.behind writer.log.items) }
+    ensures pending { drop result.behind result.log.items ≡ [] }
 {
     let mut writer = writer;
     for _ in rt.forever() {

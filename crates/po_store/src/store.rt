@@ -2,13 +2,14 @@
 ghost use Rattle.std.specs.Prelude.{◌≡◌, ◌<◌, ◌≤◌, [], All, length, IfOk};
 ghost use Rattle.std.specs.Arc.{arc_value};
 
-use crate::board::Board;
+use crate::board::{Board, with_room};
 use crate::desk::Desk;
 use crate::history::Opened;
 use crate::name::StoreName;
 use crate::publisher::Publisher;
 use crate::reader::Reader;
 use crate::version::Version;
+use crossbeam_utils::rule::Unruled;
 use left_right::writer::Writer;
 use po_model::Machine;
 use po_rule::Table;
@@ -17,9 +18,29 @@ use std::alloc::Global;
 use std::sync::ledger::Blank;
 use std::sync::{Arc, Wait};
 
+/// A writer that shows this version, to so many readers, and has room for the versions to come.
+fn writer_of<T: Table + Drop, L: StoreName, R: Wait>(
+    alloc: Global,
+    rt: &R,
+    version: &Version<T, L>,
+    readers: u8,
+) -> Result<Writer<Version<T, L>, Version<T, L>, (), Unruled>, OutOfMemory>
+    requires readers { 0 < readers }
+    ensures { IfOk result (λ w. w.desk.shown.value ≡ version.now) }
+{
+    let left = version.again()?;
+    let right = version.again()?;
+    let one = version.again()?;
+    let two = version.again()?;
+    let writer = Writer::new(alloc, left, right, usize::from(readers))?;
+    let writer = with_room(rt, writer, one, two)?;
+    Ok(writer)
+}
+
 /// The publisher and the readers of a new store, whose table has no rule. Readers have seen nothing. It fails only
-/// where memory is refused. `opened` is the store's history and `blank` its count, which the name L is then picked for
-/// (docs/LEARNING.md, "The store").
+/// where memory is refused, and no later publication needs memory of the library. `opened` is the store's history and
+/// `blank` its count, which the name L is then picked for (docs/LEARNING.md, "The store"). It shows the first version
+/// before a reader is made, so it has nobody to wait for.
 pub fn open_store<T: Table + Drop, L: StoreName, R: Wait + Drop>(
     alloc: Global,
     rt: R,
@@ -42,9 +63,7 @@ pub fn open_store<T: Table + Drop, L: StoreName, R: Wait + Drop>(
     let (head, front) = opened.named::<L>();
     let table = Arc::new(alloc, T::open(alloc, machine)?)?;
     let latest = Version::first(table, front.again());
-    let left = latest.again()?;
-    let right = latest.again()?;
-    let writer = Writer::new(alloc, left, right, usize::from(readers))?;
+    let writer = writer_of(alloc, &rt, &latest, readers)?;
     for _ in 0..readers {
         let place = writer.factory().reader().ok();
         all.push_reserved(Reader::outside(place, front.again()));

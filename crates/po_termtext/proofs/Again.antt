@@ -71,22 +71,25 @@ term_again (Leaf p) zero rest n h e = absurd (omega (arith, h))
 term_again (Read a) zero rest n h e = absurd (omega (arith, h))
 term_again (Unary o a) zero rest n h e = absurd (omega (arith, h))
 term_again (Binary o a b) zero rest n h e = absurd (omega (arith, h))
-term_again (Const c) (suc d) rest n h e = one_again (term_in d) (Const c) rest (const_reads c n) e
-term_again (Leaf p) (suc d) rest n h e = one_again (term_in d) (Leaf p) rest (place_reads p n) e
+term_again (Const c) (suc d) rest n h e = one_again (term_in d) (Const c) rest (const_reads c n.words) e
+term_again (Leaf p) (suc d) rest n h e = one_again (term_in d) (Leaf p) rest (place_reads p n.places) e
 term_again (Read a) (suc d) rest n h e =
     ap (term_by (term_in d)) (read_text a rest)
     ∙ ap (λ (r : Option (Seen (Tree ℕ Place))). r >>= closed Read (codes "]"))
-    (term_again a d (93 ∷ rest) n (omega (arith, h)) refl)
+    (term_again a d (93 ∷ rest) (record { words = n.words; places = n.places })
+    (omega (arith, h)) refl)
     ∙ closed_again Read 93 a rest refl
 term_again (Unary Neg a) (suc d) rest n h e =
     ap (term_by (term_in d)) (neg_text a rest)
     ∙ ap (λ (r : Option (Seen (Tree ℕ Place))). r >>= closed (Unary Neg) (codes ")"))
-    (term_again a d (41 ∷ rest) n (omega (arith, h)) refl)
+    (term_again a d (41 ∷ rest) (record { words = n.words; places = n.places })
+    (omega (arith, h)) refl)
     ∙ closed_again (Unary Neg) 41 a rest refl
 term_again (Unary Not a) (suc d) rest n h e =
     ap (term_by (term_in d)) (not_text a rest)
     ∙ ap (λ (r : Option (Seen (Tree ℕ Place))). r >>= closed (Unary Not) (codes ")"))
-    (term_again a d (41 ∷ rest) n (omega (arith, h)) refl)
+    (term_again a d (41 ∷ rest) (record { words = n.words; places = n.places })
+    (omega (arith, h)) refl)
     ∙ closed_again (Unary Not) 41 a rest refl
 term_again (Binary o a b) (suc d) rest n h e =
     let tail : List ℕ = term_text b ++ (41 ∷ rest) in
@@ -95,10 +98,11 @@ term_again (Binary o a b) (suc d) rest n h e =
     let second : Seen (Tree ℕ Place) → Option (Seen (Tree ℕ Place)) = λ left. operator_seen left.1 >>=
     (λ op. third op left) in
     ap (term_by (term_in d)) (binary_text o a b rest)
-    ∙ ap (λ (r : Option (Seen (Tree ℕ Place))). r >>= second) (term_again a d (32 ∷ (bin_text o ++ (32 ∷ tail))) n.0
-    (omega (arith, h)) refl)
+    ∙ ap (λ (r : Option (Seen (Tree ℕ Place))). r >>= second) (term_again a d (32 ∷ (bin_text o ++ (32 ∷ tail)))
+    (record { words = n.words.0; places = n.places.0 }) (omega (arith, h)) refl)
     ∙ ap (λ (r : Option (Seen Bin)). r >>= (λ (op : Seen Bin). third op (a, 32 ∷ (bin_text o ++ (32 ∷ tail)))))
     (operator_seen_again o tail)
     ∙ ap (λ (r : Option (Seen (Tree ℕ Place))). r >>= closed (Binary o a) (codes ")"))
-    (term_again b d (41 ∷ rest) n.1 (omega (arith, h)) refl)
+    (term_again b d (41 ∷ rest) (record { words = n.words.1; places = n.places.1 })
+    (omega (arith, h)) refl)
     ∙ closed_again (Binary o a) 41 b rest refl

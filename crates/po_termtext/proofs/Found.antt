@@ -91,7 +91,7 @@ memory_read d s inner x p front operand end =
     let made : (Read x.0, p.1) ≡ p = ap (λ (t : Tree ℕ Place). (t, p.1)) end.tree in
     subst (IsRead (suc d) s) made (record {
       text = one_read d s inner (codes "]") Read (codes "M[") x p front operand end ∙ sym (read_text x.0 p.1);
-      numbers = operand.numbers;
+      numbers = record { words = operand.numbers.words; places = operand.numbers.places };
       depth = omega (arith, operand.depth);
     })
 
@@ -101,7 +101,7 @@ neg_read d s inner x p front operand end =
     let made : (Unary Neg x.0, p.1) ≡ p = ap (λ (t : Tree ℕ Place). (t, p.1)) end.tree in
     subst (IsRead (suc d) s) made (record {
       text = one_read d s inner (codes ")") (Unary Neg) (codes "neg(") x p front operand end ∙ sym (neg_text x.0 p.1);
-      numbers = operand.numbers;
+      numbers = record { words = operand.numbers.words; places = operand.numbers.places };
       depth = omega (arith, operand.depth);
     })
 
@@ -111,7 +111,7 @@ not_read d s inner x p front operand end =
     let made : (Unary Not x.0, p.1) ≡ p = ap (λ (t : Tree ℕ Place). (t, p.1)) end.tree in
     subst (IsRead (suc d) s) made (record {
       text = one_read d s inner (codes ")") (Unary Not) (codes "not(") x p front operand end ∙ sym (not_text x.0 p.1);
-      numbers = operand.numbers;
+      numbers = record { words = operand.numbers.words; places = operand.numbers.places };
       depth = omega (arith, operand.depth);
     })
 
@@ -126,7 +126,10 @@ binary_read d s inner x y p o front left op right end =
     subst (IsRead (suc d) s) made (record {
       text = front ∙ ap (λ (r : List ℕ). 40 ∷ r) (left.text ∙ ap (λ (r : List ℕ). term_text x.0 ++ r) middle)
           ∙ sym (binary_text o.0 x.0 y.0 p.1);
-      numbers = (left.numbers, right.numbers);
+      numbers = record {
+        words = (left.numbers.words, right.numbers.words);
+        places = (left.numbers.places, right.numbers.places);
+      };
       depth = omega (arith, left.depth, right.depth);
     })
 

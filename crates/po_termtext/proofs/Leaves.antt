@@ -1,7 +1,7 @@
 -- Words that are whole terms, and operators: what is read prints the word, and the printed word is read.
 use Rattle.std.proofs.Common.{◌≡◌, ◌≢◌, ℕ, ◌+◌, ◌-◌, ◌≤◌, ◌<◌, ◌^◌, List, [], ◌∷◌, ◌++◌, true, false, cond, Option}
 use Rattle.std.proofs.Common.{Some, None, refl, sym, ap, ◌∙◌, subst, arith, length, get_or, suc, zero, ◌⊎◌, inl, inr}
-use Rattle.std.specs.Prelude.{◌==◌, codes}
+use Rattle.std.specs.Prelude.{◌==◌, codes, find}
 use Rattle.std.specs.List.{list_all}
 use Rattle.std.specs.Option.{option_map}
 use Rattle.std.specs.Fmt.{decimal}
@@ -14,8 +14,9 @@ use Rattle.po_term.specs.declared.term.Reg.{Reg}
 use Rattle.po_term.specs.declared.term.Reg.TheVariants.{Virt, Fp, Rv, Arg}
 use Rattle.po_term.specs.Tree.{Tree, Const, Leaf, tree_depth}
 use Rattle.po_term.specs.Terms.{Place, InReg, AtSym}
-use Rattle.po_termtext.specs.TermText.{const_text, reg_text, place_text, term_text, bin_text}
-use Rattle.po_termtext.specs.Form.{IsReg, IsPlace, HasNumbers}
+use Rattle.po_termtext.specs.TermText.{const_text, reg_text, place_text, term_text, bin_text, operators}
+use Rattle.po_term.specs.Form.{IsRegister, IsPlace}
+use Rattle.po_termtext.specs.Form.{HasNumbers}
 use Rattle.po_termtext.specs.Reading.{behind, same, is_digit, number_in, const_in, reg_named, virt_in, symbol_in}
 use Rattle.po_termtext.specs.Reading.{leaf_in, operator_in, in_word}
 use Rattle.po_termtext.proofs.Options.{chosen, both, mapped, bound, either}
@@ -37,9 +38,9 @@ arg_text n h = ap (λ (ds : List ℕ). codes "arg" ++ ds) (decimal_digit n h)
 
 -- the facts of a register that was read
 abbrev Named : List ℕ → Reg → Type 0
-Named w r = IsReg r × (w ≡ reg_text r)
+Named w r = IsRegister r × (w ≡ reg_text r)
 
-named_arg : (w : List ℕ) (n : ℕ) (r : Reg) → n < 4 → w ≡ codes "arg" ++ ((48 + n) ∷ []) → Arg n ≡ r → Named w r
+named_arg : (w : List ℕ) (n : ℕ) (r : Reg) → n ≤ 3 → w ≡ codes "arg" ++ ((48 + n) ∷ []) → Arg n ≡ r → Named w r
 named_arg w n r h e same = subst (Named w) same (h, e ∙ sym (arg_text n (omega (arith, h))))
 
 pub reg_found : (w : List ℕ) (r : Reg) → reg_named w ≡ Some r → Named w r
@@ -78,7 +79,7 @@ virt_found w t e =
     let made : Leaf (InReg (Virt number.0)) ≡ t = cc in
     let text : w ≡ codes "v" ++ decimal number.0 = behind_found (codes "v") w digits.0 digits.1
     ∙ ap (λ (ds : List ℕ). codes "v" ++ ds) facts.1 in
-    subst (IsLeaf w) made (record { numbers = facts.0; text = text; flat = omega arith })
+    subst (IsLeaf w) made (record { numbers = record { words = tt; places = facts.0 }; text = text; flat = omega arith })
 
 symbol_found : (w : List ℕ) (t : Tree ℕ Place) → symbol_in w ≡ Some t → IsLeaf w t
 symbol_found w t e =
@@ -88,7 +89,7 @@ symbol_found w t e =
     let made : Leaf (AtSym (record { 0 = number.0 })) ≡ t = cc in
     let text : w ≡ codes "&s" ++ decimal number.0 = behind_found (codes "&s") w digits.0 digits.1
     ∙ ap (λ (ds : List ℕ). codes "&s" ++ ds) facts.1 in
-    subst (IsLeaf w) made (record { numbers = facts.0; text = text; flat = omega arith })
+    subst (IsLeaf w) made (record { numbers = record { words = tt; places = facts.0 }; text = text; flat = omega arith })
 
 -- a term that one word is read as has that word as its text
 pub leaf_found : (w : List ℕ) (t : Tree ℕ Place) → leaf_in w ≡ Some t → IsLeaf w t
@@ -97,7 +98,11 @@ leaf_found w t e = elim (either (option_map (λ r. Leaf (InReg r)) (reg_named w)
   | inl e ↦
       let read = mapped (λ r. Leaf (InReg r)) (reg_named w) t e in
       let facts = reg_found w read.0 read.1 in
-      subst (IsLeaf w) read.2 (record { numbers = facts.0; text = facts.1; flat = omega arith })
+      subst (IsLeaf w) read.2 (record {
+        numbers = record { words = tt; places = facts.0 };
+        text = facts.1;
+        flat = omega arith;
+      })
   | inr e ↦ elim (either (virt_in w) _ t e) [
     | inl e ↦ virt_found w t e
     | inr e ↦ elim (either (symbol_in w) _ t e) [
@@ -105,7 +110,11 @@ leaf_found w t e = elim (either (option_map (λ r. Leaf (InReg r)) (reg_named w)
       | inr e ↦
           let read = mapped Const (const_in w) t e in
           let facts = const_found w read.0 read.1 in
-          subst (IsLeaf w) read.2 (record { numbers = facts.0; text = facts.1; flat = omega arith })
+          subst (IsLeaf w) read.2 (record {
+            numbers = record { words = facts.0; places = tt };
+            text = facts.1;
+            flat = omega arith;
+          })
     ]
   ]
 ]
@@ -155,7 +164,7 @@ unfolding leaf_in reg_named
 place_leaf (InReg (Virt n)) h = rw (number_again n h) refl
 place_leaf (InReg Fp) h = refl
 place_leaf (InReg Rv) h = refl
-place_leaf (InReg (Arg n)) h = ap leaf_in (arg_text n (omega (arith, h))) ∙ arg_leaf n h
+place_leaf (InReg (Arg n)) h = ap leaf_in (arg_text n (omega (arith, h))) ∙ arg_leaf n (omega (arith, h))
 place_leaf (AtSym s) h = rw (number_again s.0 h) refl
 
 digit_in_word : (b : ℕ) → is_digit b ≡ true → in_word b ≡ true
@@ -182,37 +191,17 @@ place_in_word (InReg Rv) h = refl
 place_in_word (InReg (Arg n)) h = decimal_in_word n (omega (arith, h))
 place_in_word (AtSym s) h = decimal_in_word s.0 h
 
+-- the operator of a table whose sign is the word
+sign_found : (w : List ℕ) (os : List Bin) (o : Bin) → find (λ p. same w (bin_text p)) os ≡ Some o → w ≡ bin_text o
+sign_found w [] o e = cc
+sign_found w (p ∷ ps) o e =
+    elim (choice w (bin_text p) p o (find (λ q. same w (bin_text q)) ps) e)
+    [ inl h ↦ h.0 ∙ ap bin_text h.1 | inr h ↦ sign_found w ps o h ]
+
 -- what is read as an operator is its text
 pub operator_found : (w : List ℕ) (o : Bin) → operator_in w ≡ Some o → w ≡ bin_text o
 unfolding operator_in
-operator_found w o e = elim (choice w (codes "+") Add o _ e) [
-  | inl h ↦ h.0 ∙ ap bin_text h.1
-  | inr e ↦ elim (choice w (codes "-") Sub o _ e) [
-    | inl h ↦ h.0 ∙ ap bin_text h.1
-    | inr e ↦ elim (choice w (codes "*") Mul o _ e) [
-      | inl h ↦ h.0 ∙ ap bin_text h.1
-      | inr e ↦ elim (choice w (codes "&") And o _ e) [
-        | inl h ↦ h.0 ∙ ap bin_text h.1
-        | inr e ↦ elim (choice w (codes "|") Or o _ e) [
-          | inl h ↦ h.0 ∙ ap bin_text h.1
-          | inr e ↦ elim (choice w (codes "^") Xor o _ e) [
-            | inl h ↦ h.0 ∙ ap bin_text h.1
-            | inr e ↦ elim (choice w (codes "<<") Shl o _ e) [
-              | inl h ↦ h.0 ∙ ap bin_text h.1
-              | inr e ↦ elim (choice w (codes ">>") Sar o _ e) [
-                | inl h ↦ h.0 ∙ ap bin_text h.1
-                | inr e ↦ elim (choice w (codes ">>>") Shr o None e) [
-                  | inl h ↦ h.0 ∙ ap bin_text h.1
-                  | inr e ↦ cc
-                ]
-              ]
-            ]
-          ]
-        ]
-      ]
-    ]
-  ]
-]
+operator_found w o e = sign_found w operators o e
 
 pub operator_again : (o : Bin) → operator_in (bin_text o) ≡ Some o
 unfolding operator_in

@@ -1,17 +1,17 @@
 -- What a text is read as, in the cases of the reader: a helper of the proofs that no public clause cites.
 use Rattle.std.specs.Prelude.{ℕ, ◌-◌, ◌^◌, List, [], ◌∷◌, length, drop, codes, Option, Some, None, Bool, true, false}
-use Rattle.std.specs.Prelude.{not, nat_eq, nat_le, nat_lt, ◌==◌, ◌&&◌, ◌||◌, if◌then◌else◌, zero, suc}
+use Rattle.std.specs.Prelude.{not, nat_eq, nat_le, nat_lt, ◌==◌, ◌&&◌, ◌||◌, if◌then◌else◌, zero, suc, find}
 use Rattle.std.specs.List.{list_all, take_while}
 use Rattle.std.specs.Option.{option_map}
 use Rattle.std.specs.Cmp.Lexicographic.{pointwise}
 use Rattle.std.specs.Str.Parse.{digits_value}
 use Rattle.po_word.specs.declared.operator.Un.TheVariants.{Neg, Not}
 use Rattle.po_word.specs.declared.operator.Bin.{Bin}
-use Rattle.po_word.specs.declared.operator.Bin.TheVariants.{Add, Sub, Mul, And, Or, Xor, Shl, Sar, Shr}
 use Rattle.po_term.specs.declared.term.Reg.{Reg}
 use Rattle.po_term.specs.declared.term.Reg.TheVariants.{Virt, Fp, Rv, Arg}
 use Rattle.po_term.specs.Tree.{Tree, Const, Leaf, Read, Unary, Binary, tree_size}
 use Rattle.po_term.specs.Terms.{Place, InReg, AtSym}
+use Rattle.po_termtext.specs.TermText.{bin_text, operators}
 
 -- a later part is read where the earlier ones are there
 infixl 10 ◌>>=◌
@@ -84,17 +84,9 @@ unfoldable pub leaf_in : List ℕ → Option (Tree ℕ Place)
 leaf_in w = or_else (option_map (λ r. Leaf (InReg r)) (reg_named w))
     (or_else (virt_in w) (or_else (symbol_in w) (option_map Const (const_in w))))
 
+-- the operator whose sign this is
 unfoldable pub operator_in : List ℕ → Option Bin
-operator_in w =
-    if same w (codes "+") then Some Add else
-    (if same w (codes "-") then Some Sub else
-    (if same w (codes "*") then Some Mul else
-    (if same w (codes "&") then Some And else
-    (if same w (codes "|") then Some Or else
-    (if same w (codes "^") then Some Xor else
-    (if same w (codes "<<") then Some Shl else
-    (if same w (codes ">>") then Some Sar else
-    (if same w (codes ">>>") then Some Shr else None))))))))
+operator_in w = find (λ o. same w (bin_text o)) operators
 
 -- a blank or a closing bracket ends a word
 abbrev pub in_word : ℕ → Bool

@@ -52,6 +52,10 @@ bin_text Shl = codes "<<"
 bin_text Sar = codes ">>"
 bin_text Shr = codes ">>>"
 
+-- all of them
+abbrev pub operators : List Bin
+operators = Add ∷ Sub ∷ Mul ∷ And ∷ Or ∷ Xor ∷ Shl ∷ Sar ∷ Shr ∷ []
+
 abbrev pub rel_text : Rel → List ℕ
 rel_text Eq = codes "eq"
 rel_text Ne = codes "ne"

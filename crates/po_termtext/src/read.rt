@@ -6,7 +6,8 @@ ghost use Rattle.po_term.specs.Tree.{Tree, tree_size, Unary, Binary};
 ghost use Rattle.po_term.specs.Tree.{Read as ReadAt};
 ghost use Rattle.po_term.specs.Terms.{Place, tree_of};
 ghost use Rattle.po_termtext.specs.TermText.{term_text};
-ghost use Rattle.po_termtext.specs.Form.{IsTerm, HasNumbers};
+ghost use Rattle.po_term.specs.Form.{WellFormedTerm};
+ghost use Rattle.po_termtext.specs.Form.{HasNumbers};
 ghost use Rattle.po_termtext.specs.Reading as reading;
 ghost use Rattle.po_termtext.specs.Gives.{Gives, seen, operator_shown};
 
@@ -24,10 +25,10 @@ const MAX_NODES: u32 = 64;
 /// The term that a text is the printed text of (docs/LANGUAGE.md, "Term text"); `None` where it is that of no term of
 /// at most 64 nodes and depth 16. Only memory can fail. The text is read once, from left to right.
 pub fn read_term(alloc: Global, text: &[u8]) -> Result<Option<Term>, OutOfMemory>
-    ensures found { IfOk result (λ read. IfSome read (λ t. IsTerm (tree_of t) × (text.now ≡ term_text (tree_of t)))) }
-    ensures none { IfOk result (λ read. IfNone read ((t : Tree ℕ Place) → IsTerm t → text.now ≢ term_text t)) }
+    ensures found { IfOk result (λ read. IfSome read (λ t. WellFormedTerm (tree_of t) × (text.now ≡ term_text (tree_of t)))) }
+    ensures none { IfOk result (λ read. IfNone read ((t : Tree ℕ Place) → WellFormedTerm t → text.now ≢ term_text t)) }
     // A printed term is read as that term.
-    ensures again { IfOk result (λ read. (t : Tree ℕ Place) → IsTerm t → text.now ≡ term_text t → option_map tree_of
+    ensures again { IfOk result (λ read. (t : Tree ℕ Place) → WellFormedTerm t → text.now ≡ term_text t → option_map tree_of
         read ≡ Some t) }
 {
     let read = read_text(alloc, text)?;

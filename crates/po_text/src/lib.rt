@@ -17,6 +17,6 @@ pub use fault::{Kind, OutOfMemory, ReadRefusal, Span, Spot, TextRefusal, WriteFa
 pub use memory::{MemSink, MemSource};
 pub use number::read_number;
 pub use sink::{Put, Sink, write_all};
-pub use source::{Got, Source, read_all};
+pub use source::{Got, Source, place_behind, read_all};
 pub use standard::{StdSink, StdSource};
 pub use words::{split_line, word_end};

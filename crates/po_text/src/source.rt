@@ -6,7 +6,7 @@ ghost use Rattle.std.specs.Prelude.{◌≡◌, ℕ, ◌+◌, ◌-◌, ◌<◌, �
 ghost use Rattle.std.specs.Prelude.{IfSome};
 ghost use Rattle.po_text.specs.Causes.{Counts, before_known};
 ghost use Rattle.po_text.specs.Source.{Reads, GotCause, ReadCause, OnBreakOff, OnTooLong};
-ghost use Rattle.po_text.specs.Place.{place_behind, place_from};
+ghost use Rattle.po_text.specs.Place as place;
 
 use crate::ReadRefusal;
 use std::alloc::Global;
@@ -75,14 +75,15 @@ pub fn read_all<S: Source>(
             }
         }
     }
-    let (line, col) = place(&bytes[..limit]);
+    let (line, col) = place_behind(&bytes[..limit]);
     Err(ReadRefusal::TooLong { line, col })
 }
 
-/// The line and the column of the byte behind these.
-fn place(bytes: &[u8]) -> (u32, u32)
+/// The line and the column of the byte behind these, both counted from 1; a line ends at its line feed. There are
+/// fewer than 2^32 - 1 bytes.
+pub fn place_behind(bytes: &[u8]) -> (u32, u32)
     requires { length bytes.now < 2 ^ 32 - 1 }
-    ensures { result ≡ place_behind bytes.now }
+    ensures { result ≡ place.place_behind bytes.now }
 {
     let mut line = 1;
     let mut column = 1;

@@ -8,7 +8,7 @@ use Rattle.po_assign.proofs.place.place_spans.Goals as goal
 pub loop-index-init : goal.loop-index-init
 loop-index-init c =
     let none : c.in_ok-ends.ends.items ≡ replicate c.args.count 0 = search rules in
-    rw (none, c.new-regs.ensures.items) (standing_begin c.args.count _ c.requires.rising)
+    rw (none, c.in_ok-regs.ensures.items) (standing_begin c.args.count _ c.requires.rising)
 
 pub returns-in_default : goal.returns-in_default
 returns-in_default c =

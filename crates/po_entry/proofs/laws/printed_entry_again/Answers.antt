@@ -1,4 +1,4 @@
-use Rattle.po_entry.proofs.Again.{entry_again}
+use Rattle.po_entry.proofs.ReadsLine.{entry_again}
 use Rattle.po_entry.proofs.laws.printed_entry_again.Goals as goal
 
 pub returns : goal.returns

@@ -1,14 +1,10 @@
 use Rattle.std.proofs.Common.{map}
 use Rattle.po_lines.specs.Words.{seen}
-use Rattle.po_model.specs.Entries.{IsEntry}
-use Rattle.po_mdread.proofs.NameLaws.{alone_found, new_are, all_none}
+use Rattle.po_mdread.proofs.NameLaws.{alone_found, new_are}
 use Rattle.po_mdread.proofs.line.result_line.Goals as goal
 
 pub returns-clause-kept : goal.returns-clause-kept
 returns-clause-kept c =
     let ws = map seen c.args.rest.now in
     let read = alone_found ws c.args.end c.in_ok-result_name.result_name c.in_ok-result_name.ensures in
-    record {
-      names = new_are c.args.names _ ws c.in_ok-names.names _ c.requires c.in_ok-names.ensures read.words;
-      entries = all_none IsEntry;
-    }
+    new_are c.args.names _ ws c.in_ok-names.names _ c.requires c.in_ok-names.ensures read.words

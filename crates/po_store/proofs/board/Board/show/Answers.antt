@@ -10,7 +10,7 @@ returns-in_default-replace g c =
       refl,
       g.met.V.Whole.same _ _
           (rw (
-            c.publish-writer.ensures,
+            c.publish-writer.ensures.shown,
             c.append-writer.ensures.pending,
             fold-append g.V.Absorb.applied (g.V.Absorb.state shown) behind (c.args.version ∷ []),
           )
