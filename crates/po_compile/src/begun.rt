@@ -60,10 +60,9 @@ fn prepare(alloc: Global, program: Program) -> Result<Begun, Refusal>
     })
 }
 
-/// The naive codes of a text of at most 4,194,304 bytes, each instruction of which fits an entry of the text's
-/// machine, or the first cause that there are none (docs/PROGRAM.md, "Statuses").
+/// The naive codes of a text, each instruction of which fits an entry of the text's machine, or the first cause that
+/// there are none (docs/PROGRAM.md, "Statuses").
 pub fn begin(alloc: Global, text: &[u8]) -> Result<Begun, Refusal>
-    requires { length text.now ≤ 4194304 }
     ensures begun { IfOk result (λ b. IsBegun text.now (arc_value b.machine) (units_of b.codes.items)) }
     ensures machine { IfOk result (λ b. IsMachine (arc_value b.machine)) }
     ensures index { IfOk result (λ b. IsIndexOf (arc_value b.machine) b.index) }

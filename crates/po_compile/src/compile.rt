@@ -76,10 +76,9 @@ pub fn finish<T: Drop>(
     Ok(Compiled { out, told })
 }
 
-/// The output for a text of at most 4,194,304 bytes, in a mode that learns no rule, or the first cause that there is
-/// none (docs/PROGRAM.md, "Statuses").
+/// The output for a text, in a mode that learns no rule, or the first cause that there is none (docs/PROGRAM.md,
+/// "Statuses").
 pub fn compile(alloc: Global, alone: Alone, text: &[u8]) -> Result<Compiled<()>, Refusal>
-    requires { length text.now ≤ 4194304 }
     ensures { Compiles (mode_alone alone) text.now result }
 {
     let Begun {

@@ -1,6 +1,6 @@
 //! The input: a description, and the units behind it.
 
-ghost use Rattle.std.specs.Prelude.{◌≤◌, length, IfOk};
+ghost use Rattle.std.specs.Prelude.{IfOk};
 ghost use Rattle.po_lines.specs.Faults.{Gets};
 ghost use Rattle.po_compile.specs.Input.{program_of, input_in, IsProgram};
 
@@ -21,7 +21,6 @@ pub struct Program {
 /// The description and the units of a text, or its first fault.
 #[tactic(auto, unfolding(crate::specs::Input::input_in))]
 pub fn read_input(alloc: Global, text: &[u8]) -> Result<Program, TextRefusal>
-    requires { length text.now ≤ 4194304 }
     ensures gives { Gets program_of result (input_in text.now) }
     ensures allowed { IfOk result IsProgram }
 {

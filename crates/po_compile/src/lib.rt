@@ -28,6 +28,7 @@ pub use compiled::Compiled;
 pub use laws::{modes_make_one_code, placed_slowed_runs_alike, texts_have_one_output};
 pub use made::Made;
 pub use mode::{Alone, Mode};
+pub use po_lines::LIMIT;
 pub use refusal::Refusal;
 pub use status::Status;
-pub use streams::{LIMIT, run, status_of};
+pub use streams::{run, status_of};

@@ -11,11 +11,9 @@ use crate::Status;
 use crate::compile::compile;
 use crate::mode::Alone;
 use crate::refusal::Refusal;
+use po_lines::LIMIT;
 use po_text::{Kind, ReadRefusal, Sink, Source, read_all, write_all};
 use std::alloc::Global;
-
-/// How many bytes an input may have (docs/PROGRAM.md, "Limits").
-pub const LIMIT: usize = 4194304;
 
 /// The status of a refusal (docs/PROGRAM.md, "Statuses").
 pub fn status_of(refusal: Refusal) -> Status

@@ -27,9 +27,6 @@ pub fn machine(alloc: Global, text: &str) -> Result<Arc<Machine>, Fail>
     ensures { IfOk result (λ m. IsMachine (arc_value m)) }
 {
     let bytes = text.as_bytes();
-    if bytes.len() > 4194304 {
-        return Err(Fail::from("too long"));
-    }
     let (machine, _) = read_machine(alloc, bytes)?;
     let shared = Arc::new(alloc, machine)?;
     Ok(shared)
@@ -42,9 +39,6 @@ pub fn code(alloc: Global, description: &str, unit: &str) -> Result<Code, Fail>
     let mut text = Vec::new(alloc);
     text.extend_from_slice(description.as_bytes())?;
     text.extend_from_slice(unit.as_bytes())?;
-    if text.len() > 4194304 {
-        return Err(Fail::from("too long"));
-    }
     let (_, at) = read_machine(alloc, &text)?;
     let units = read_units(alloc, &text, at)?;
     match units.as_slice() {

@@ -160,9 +160,6 @@ fn text_works<L: Ledger>(alloc: Global, text: &[u8], row: Row, ledger: Blank) ->
     requires parts { ledger.parts ≡ L.parts }
     requires some { 0 < ledger.parts }
 {
-    if text.len() > 4194304 {
-        return Ok(false);
-    }
     let (machine, at) = read_machine(alloc, text)?;
     let units = read_units(alloc, text, at)?;
     let [unit] = units.as_slice() else {

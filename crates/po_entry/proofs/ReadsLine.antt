@@ -20,7 +20,7 @@ use Rattle.po_pattern.specs.Seen.{none_seen}
 use Rattle.po_entry.specs.EntryText.{template_text, entry_text}
 use Rattle.po_entry.specs.Words.{says}
 use Rattle.po_entry.specs.ListRules.{with_next, transfers, clobber_in}
-use Rattle.po_entry.specs.Template.{arrow, template_in}
+use Rattle.po_entry.specs.Template.{template_in}
 use Rattle.po_entry.specs.Reading.{entry_in}
 use Rattle.po_entry.specs.Writing as writing
 use Rattle.po_entry.specs.Writing.{Form, blanks, word, ◌⨾◌, IsWritten}

@@ -31,7 +31,7 @@ use Rattle.po_entry.specs.EntryText.{operand_text, pat_reg_text}
 use Rattle.po_entry.specs.Words.{is_word_byte, word_here, says, after_word, behind_word, ends_word, keyword, ended}
 use Rattle.po_entry.specs.Transfers as transfers
 use Rattle.po_entry.specs.Writing as writing
-use Rattle.po_entry.specs.Writing.{text, blanks, ends_here, alone, word, ◌⨾◌}
+use Rattle.po_entry.specs.Writing.{blanks, ends_here, alone, word, ◌⨾◌}
 use Rattle.po_entry.proofs.Noted.{noted, Fits, noted_more, fits_front, fits_back}
 use Rattle.po_entry.proofs.Backs.{back}
 use Rattle.po_entry.proofs.AgainParts.{at, Again, prefix_again, operand_again, Stops}

@@ -50,7 +50,7 @@ const STARTS: [&str; 5] = [
 /// How many head lines a text begins with, what stands behind them, and the first fault.
 type Row = (usize, &'static str, (u32, u32, Kind));
 
-const FAULTS: [Row; 17] = [
+const FAULTS: [Row; 28] = [
     (0, "", (1, 1, Kind::Word)),
     (0, "\n// x\nmachin tiny", (3, 1, Kind::Word)),
     (0, "machine", (1, 8, Kind::Word)),
@@ -59,6 +59,11 @@ const FAULTS: [Row; 17] = [
     // The text ends too early, with and without a line feed.
     (1, "", (2, 1, Kind::Word)),
     (1, "frame fp", (3, 1, Kind::Word)),
+    (1, "frame", (2, 6, Kind::Word)),
+    (1, "fram fp", (2, 1, Kind::Word)),
+    (1, "frame fp rv", (2, 10, Kind::Word)),
+    (2, "result", (3, 7, Kind::Word)),
+    (2, "result a-b", (3, 8, Kind::Word)),
     (2, "result fp", (3, 8, Kind::Duplicate)),
     (3, "args a0 a1 a2", (4, 14, Kind::Word)),
     (3, "args a0 a1 a2 a3 a4", (4, 18, Kind::Word)),
@@ -66,14 +71,49 @@ const FAULTS: [Row; 17] = [
     // The form comes before the repeated name.
     (3, "args a0 a0 a-2 a3", (4, 12, Kind::Word)),
     (4, "regs", (5, 5, Kind::Word)),
+    (4, "regs r0 a-b", (5, 9, Kind::Word)),
+    (4, "regs r0 fp", (5, 9, Kind::Duplicate)),
     (4, "regs r0 r1 r0", (5, 12, Kind::Duplicate)),
+    (
+        4,
+        "regs r0\ninsn %0 := 2147483648 => x",
+        (6, 12, Kind::Number),
+    ),
+    (4, "regs r0\ninsn %0 := #1[5,4] => x", (6, 14, Kind::Range)),
+    (4, "regs r0\ninsn fp := %0 => x", (6, 6, Kind::ListForm)),
+    (
+        4,
+        "regs r0\ninsn cc := %0 ? %1 clobber cc => x",
+        (6, 20, Kind::NeverMatches),
+    ),
     (4, "regs r0\ninsns ret => ret", (6, 1, Kind::Word)),
     (4, "regs r0\nend x", (6, 5, Kind::Word)),
     (4, "regs r0\n", (6, 1, Kind::Word)),
 ];
 
 /// Names, terms and lists of registers that are too large, and what is just inside.
-const SIZES: [Row; 8] = [
+const SIZES: [Row; 12] = [
+    // Names of 64 bytes, behind which the text ends.
+    (
+        1,
+        "frame abcdefghabcdefghabcdefghabcdefghabcdefghabcdefghabcdefghabcdefgh",
+        (3, 1, Kind::Word),
+    ),
+    (
+        2,
+        "result abcdefghabcdefghabcdefghabcdefghabcdefghabcdefghabcdefghabcdefgh",
+        (4, 1, Kind::Word),
+    ),
+    (
+        3,
+        "args abcdefghabcdefghabcdefghabcdefghabcdefghabcdefghabcdefghabcdefgh a1 a2 a3",
+        (5, 1, Kind::Word),
+    ),
+    (
+        4,
+        "regs abcdefghabcdefghabcdefghabcdefghabcdefghabcdefghabcdefghabcdefgh",
+        (6, 1, Kind::Word),
+    ),
     // The name is a byte too long.
     (
         1,

@@ -12,8 +12,7 @@ use Rattle.po_model.specs.declared.machine.Entry.{Entry}
 use Rattle.po_model.specs.Entries.{IsEntry}
 use Rattle.po_entry.specs.EntryText.{entry_text}
 use Rattle.po_entry.specs.Writing.{IsWritten}
-use Rattle.po_entry.proofs.Printed.{entry_printed, entry_begins}
-use Rattle.po_entry.proofs.Plain.{entry_plain}
+use Rattle.po_entry.proofs.Printed.{entry_printed, entry_plain, entry_begins}
 use Rattle.po_mdread.specs.Description.{BeginsWith}
 
 -- an entry whose printed line is written as it

@@ -124,9 +124,6 @@ fn counted<L: Ledger>(
 
 /// Whether the passes over the one unit of a text try so many pairs and leave so many instructions.
 fn text_tries(alloc: Global, text: &[u8], want: &[usize], left: usize) -> Result<bool, Fail> {
-    if text.len() > 4194304 {
-        return Ok(false);
-    }
     let (machine, at) = read_machine(alloc, text)?;
     let units = read_units(alloc, text, at)?;
     let [unit] = units.as_slice() else {

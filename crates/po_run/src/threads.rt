@@ -65,7 +65,6 @@ fn compile<R: Threads + Wait + Sync, G: Gate + Sync>(
     crew: Crew,
     text: &[u8],
 ) -> Result<Compiled<Counts>, Refusal>
-    requires text { length text.now ≤ 4194304 }
     requires workers { (0 < crew.workers) × (crew.workers ≤ 16) }
     requires learners { crew.learners ≤ 8 }
     ensures compiles { Compiles Opt text.now result }

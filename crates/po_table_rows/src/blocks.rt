@@ -90,9 +90,6 @@ fn scans<L: Ledger>(
 }
 
 fn text_scans(alloc: Global, text: &[u8]) -> Result<bool, Fail> {
-    if text.len() > 4194304 {
-        return Ok(false);
-    }
     let (machine, at) = read_machine(alloc, text)?;
     let units = read_units(alloc, text, at)?;
     let [unit] = units.as_slice() else {
