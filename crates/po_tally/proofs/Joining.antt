@@ -43,8 +43,10 @@ counted_at old t u v place s at here again hit more =
     let same : u.more ≡ (get_or old place v).more =
     ap (λ (x : Tally). x.more) (here ∙ same_at old place u v within) in
     record {
-      hits = inl (map-set_same hit_in old place s v (ap hit_of (hit ∙ ap (λ (x : Tally). x.hit) again)),
-          contains_at (map rule_in old) place (rule_in t) at);
+      hits = inl (
+        map-set_same hit_in old place s v (ap hit_of (hit ∙ ap (λ (x : Tally). x.hit) again)),
+        contains_at (map rule_in old) place (rule_in t) at,
+      );
       count = omega (arith, sum_by-set count_in old place s v within, more, same);
     }
 
