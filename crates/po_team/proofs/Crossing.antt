@@ -158,13 +158,13 @@ pub hit_sync : IsSync Hit.the_row
 hit_sync = search (hit_field_sync, crosses, sendable) depth 60 fits 20000
 
 pub tally_field_send : IsSend (Tally.the_field).row
-tally_field_send = search (hit_send, crosses, sendable) depth 60 fits 20000
+tally_field_send = search (hit_field_send, crosses, sendable) depth 60 fits 20000
 
 pub tally_send : IsSend Tally.the_row
 tally_send = search (tally_field_send, crosses, sendable) depth 60 fits 20000
 
 pub tally_field_sync : IsSync (Tally.the_field).row
-tally_field_sync = search (hit_sync, crosses, sendable) depth 60 fits 20000
+tally_field_sync = search (hit_field_sync, crosses, sendable) depth 60 fits 20000
 
 pub tally_sync : IsSync Tally.the_row
 tally_sync = search (tally_field_sync, crosses, sendable) depth 60 fits 20000

@@ -33,8 +33,12 @@ abbrev pub GivesBy : Machine → List UnitCode → List PlainRule → ℕ → Wo
 GivesBy m codes told index w = (u : UnitCode) × (slice_get codes index ≡ Some u) × IsWorkBy m told (unit_of u) w
 
 -- the brief is that of such a work
+abbrev pub IsBriefBy : Machine → List UnitCode → List PlainRule → ℕ → Brief → Type 0
+IsBriefBy m codes told index b = (w : Work) × GivesBy m codes told index w × IsBriefOf w b
+
+-- by a worker that was told of some rules
 abbrev pub GivesAt : Machine → List UnitCode → ℕ → Brief → Type 0
-GivesAt m codes index b = (told : List PlainRule) × (w : Work) × GivesBy m codes told index w × IsBriefOf w b
+GivesAt m codes index b = (told : List PlainRule) × IsBriefBy m codes told index b
 
 -- these are the briefs of these codes, one for each, in their order
 pub record AreWorksOf (m : Machine) (codes : List UnitCode) (briefs : List Brief) : Type 0 where
