@@ -36,7 +36,7 @@ use Rattle.po_opt.specs.Relooked.{HasRule, AreSeen}
 use Rattle.po_opt.specs.Rules.{AreWritten}
 use Rattle.po_opt.specs.Told.{IsTally, AreTold, tally_text, texts_told}
 use Rattle.po_opt.proofs.Reports.{hit_count}
-use Rattle.po_opt.proofs.Rules.{covers_first, covers_last}
+use Rattle.po_opt.proofs.ByRules.{covers_first, covers_last}
 use Rattle.po_opt.proofs.Writing.{HasRules, texts_within, sorted_as, few_rules, no_hits}
 
 -- where the list of rules goes on, what stood in it stands in it

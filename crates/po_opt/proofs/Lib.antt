@@ -11,7 +11,7 @@ pub mod Relooking
 -- The rules that are written
 pub mod Writing
 -- The tries of all units, told by their rules
-pub mod Rules
+pub mod ByRules
 -- How much was learned
 pub mod Ending
 -- The counts of a run

@@ -18,7 +18,7 @@ use Rattle.po_opt.specs.Counts.{AreCounts, IsMade}
 use Rattle.po_opt.specs.Told.{AreSlowed, AreTold, IsTally, codes_in, tallies_in, misses_in, units_of}
 use Rattle.po_opt.proofs.Telling.{AllTold, behind, brief_misses, brief_taken, brief_tallies, misses_all, reports_in}
 use Rattle.po_opt.proofs.Telling.{slowed_behind, told_all}
-use Rattle.po_opt.proofs.Rules.{are_told, misses_are, tallies_are}
+use Rattle.po_opt.proofs.ByRules.{are_told, misses_are, tallies_are}
 
 module _ (m : Machine) (codes : List UnitCode) (briefs : List Brief) (told : Told)
     (are : AreWorksOf m codes briefs) (joined : AreJoined (tallies_in briefs) told.tallies.items)

@@ -4,7 +4,6 @@ ghost use Rattle.std.specs.Arc.{arc_value};
 ghost use Rattle.std.specs.List.{sum_by};
 ghost use Rattle.po_model.specs.Lookups.{AreCanonical};
 ghost use Rattle.po_model.specs.Machines.{IsMachine};
-ghost use Rattle.po_fore.specs.declared.report.BlockReport.{BlockReport as Report};
 ghost use Rattle.po_model.specs.Pairs.{pair_of, WellFormedPair};
 ghost use Rattle.po_model.specs.UnitCodes.{PlainUnit};
 ghost use Rattle.po_queue.specs.Passes.{IsOf, new_pass, put_count};
@@ -95,24 +94,36 @@ fn append(misses: &mut Vec<Pair>, others: Vec<Pair>) -> Result<(), OutOfMemory>
 
 /// One report of all tries: a hit of each rule that is published, and the misses, with those that were hits.
 fn report_of(
-    alloc: Global,
     hits: Vec<Hit>,
     misses: Vec<Pair>,
     lost: Vec<Pair>,
-) -> Result<Vec<BlockReport>, OutOfMemory>
-    ensures { IfOk result (λ rs. (r : Report) × (rs.items ≡ r ∷ []) × (r.used.items ≡ hits.items)
-        × (r.misses.items ≡ misses.items ++ lost.items)) }
+) -> Result<BlockReport, OutOfMemory>
+    ensures used { IfOk result (λ r. r.used.items ≡ hits.items) }
+    ensures misses { IfOk result (λ r. r.misses.items ≡ misses.items ++ lost.items) }
 {
     let mut misses = misses;
     append(&mut misses, lost)?;
     let tried = added(hits.len() as u64, misses.len() as u64)?;
-    let report = BlockReport {
+    Ok(BlockReport {
         used: hits,
         misses,
         tried,
-    };
+    })
+}
+
+/// Puts a report behind these.
+fn push_report(reports: &mut Vec<BlockReport>, report: BlockReport) -> Result<(), OutOfMemory>
+    ensures { OnOk result (reports.new.items ≡ reports.old.items ++ report ∷ []) }
+{
+    push(reports, report)
+}
+
+/// The report alone.
+fn alone(alloc: Global, report: BlockReport) -> Result<Vec<BlockReport>, OutOfMemory>
+    ensures { IfOk result (λ rs. rs.items ≡ report ∷ []) }
+{
     let mut reports = Vec::new(alloc);
-    push(&mut reports, report)?;
+    push_report(&mut reports, report)?;
     Ok(reports)
 }
 
@@ -208,7 +219,8 @@ pub fn end_run<V: Edition<T, L>, T: Table + Drop, L: StoreName, R: Wait + Drop, 
     let mut passes = passes;
     push_pass(&mut passes, pass)?;
     let learned = end_learning(rt, alloc, gate, machine, publisher, posts, passes, shares)?;
-    let reports = report_of(alloc, relooked.hits, misses, relooked.lost)?;
+    let report = report_of(relooked.hits, misses, relooked.lost)?;
+    let reports = alone(alloc, report)?;
     let counted = count(
         alloc,
         machine,

@@ -36,7 +36,10 @@ count-requires-clause-canonical g c =
 pub count-requires-clause-formed : goal.count-requires-clause-formed
 count-requires-clause-formed g c =
     let m = g.T.Lookup.machine c.table.result.now in
-    let (r, one, used, missed) = c.in_ok-reports.ensures in
+    let r = c.in_ok-report.report in
+    let one = c.in_ok-reports.ensures in
+    let used = c.in_ok-report.ensures.used in
+    let missed = c.in_ok-report.ensures.misses in
     let formed : HasFormedMisses r = report_formed m (g.T.Lookup.rules c.table.result.now) c.args.told.tallies.items
     c.args.told.misses.items c.in_ok-again.again.relooked c.in_ok-again.ensures.seen r used missed
     c.requires.formed in
@@ -50,7 +53,10 @@ returns-clause-counts g c us told =
     let old = c.args.told.tallies.items in
     let misses = c.args.told.misses.items in
     let done = again.relooked in
-    let (r, one, used, missed) = c.in_ok-reports.ensures in
+    let r = c.in_ok-report.report in
+    let one = c.in_ok-reports.ensures in
+    let used = c.in_ok-report.ensures.used in
+    let missed = c.in_ok-report.ensures.misses in
     let capacity = c.args.posts.queue.capacity in
     let passes = c.args.passes.items in
     let pushed : c.push_pass.new.passes.items ≡ passes ++ again.pass ∷ [] = c.in_ok-push_pass.ensures in
