@@ -121,16 +121,16 @@ losts_text m (t ∷ ts) a =
 module _ (m : Machine) (first : List PlainRule) (tallies : List Tally) (misses : List Pair) (done : Relooked)
     (seen : AreSeen m first tallies done) (r : BlockReport) (used : r.used.items ≡ done.hits.items)
     (missed : r.misses.items ≡ misses ++ done.lost.items) where
-  founds : List (List ℕ)
+  abbrev founds : List (List ℕ)
   founds = map tally_text seen.founds
 
-  losts : List (List ℕ)
+  abbrev losts : List (List ℕ)
   losts = map tally_text seen.losts
 
-  all : List (List ℕ)
+  abbrev all : List (List ℕ)
   all = map tally_text tallies
 
-  mine : List (List ℕ)
+  abbrev mine : List (List ℕ)
   mine = map (miss_text m) misses
 
   split : (weight : Tally → ℕ) → sum_by weight (seen.founds ++ seen.losts) ≡ sum_by weight tallies

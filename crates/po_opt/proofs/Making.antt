@@ -23,7 +23,7 @@ use Rattle.po_opt.proofs.ByRules.{are_told, misses_are, tallies_are}
 module _ (m : Machine) (codes : List UnitCode) (briefs : List Brief) (told : Told)
     (are : AreWorksOf m codes briefs) (joined : AreJoined (tallies_in briefs) told.tallies.items)
     (missed : told.misses.items ≡ misses_in briefs) where
-  reports : List BlockReport
+  abbrev reports : List BlockReport
   reports = reports_in (behind m codes briefs are).works
 
   all : AllTold m (units_of codes) reports

@@ -10,7 +10,7 @@ use Rattle.po_model.specs.declared.pair.Pair.{Pair}
 use Rattle.po_model.specs.Canonical.{Canonical}
 use Rattle.po_model.specs.Holed.{PlainRule}
 use Rattle.po_model.specs.Lookups.{AreCanonical, FitsRule}
-use Rattle.po_model.specs.Pairs.{PlainPair, pair_of}
+use Rattle.po_model.specs.Pairs.{PlainPair, pair_of, WellFormedPair}
 use Rattle.po_fore.specs.declared.report.Hit.{Hit}
 use Rattle.po_rule.specs.Posts.{RoseBy}
 use Rattle.po_crew.specs.Posted.{ArePosted, taken_of}
@@ -28,6 +28,13 @@ found_rule m rules h r canonical hit fits =
     subst (Contains rules)
     (sym ((All-contains (Canonical m) rules r canonical fits.listed).rule (pair_of h.pair) hit.formed fits.instance)
     ∙ sym hit.rule) fits.listed
+
+-- a copy of a well-formed pair behind others
+pub formed_push : (old new : List Pair) (p : Pair) (q : PlainPair) → new ≡ old ++ p ∷ [] → pair_of p ≡ q
+    → WellFormedPair q → All WellFormedPair (map pair_of old) → All WellFormedPair (map pair_of new)
+formed_push old new p q e same formed all =
+    subst (All WellFormedPair) (sym (ap (map pair_of) e ∙ map_push pair_of old p))
+    (All-push WellFormedPair (map pair_of old) (pair_of p) all (subst WellFormedPair (sym same) formed))
 
 -- Misses that were posted
 

@@ -273,7 +273,8 @@ module _ (m : Machine) where
   behind [] (b ∷ bs) h = absurd (omega (arith, h.count))
   behind (c ∷ cs) [] h = absurd (omega (arith, h.count))
   behind (c ∷ cs) (b ∷ bs) h =
-      let (told, w, by, brief) = h.each 0 b refl in
+      let (told, given_by) = h.each 0 b refl in
+      let (w, by, brief) = given_by in
       let (u, at, is) = by in
       let others = behind cs bs (record {
         count = omega (arith, h.count);

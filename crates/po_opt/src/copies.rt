@@ -1,11 +1,18 @@
 //! Copies of a pair that is posted more than once.
-ghost use Rattle.std.specs.Prelude.{◌≡◌, ◌+◌, length, map, All, IfOk, OnOk};
+ghost use Rattle.std.specs.Prelude.{◌≡◌, ◌+◌, ◌++◌, ◌∷◌, [], length, map, All, IfOk, OnOk};
 ghost use Rattle.po_model.specs.Pairs.{pair_of, WellFormedPair};
 
 use po_crew::copy_pair;
 use po_model::Pair;
 use po_word::{OutOfMemory, push};
 use std::alloc::Global;
+
+/// Puts a pair behind these.
+fn push_pair(copies: &mut Vec<Pair>, copy: Pair) -> Result<(), OutOfMemory>
+    ensures { OnOk result (copies.new.items ≡ copies.old.items ++ copy ∷ []) }
+{
+    push(copies, copy)
+}
 
 /// A copy behind these.
 fn push_copy(alloc: Global, copies: &mut Vec<Pair>, pair: &Pair) -> Result<(), OutOfMemory>
@@ -15,7 +22,8 @@ fn push_copy(alloc: Global, copies: &mut Vec<Pair>, pair: &Pair) -> Result<(), O
         → All WellFormedPair (map pair_of copies.new.items)) }
 {
     let copy = copy_pair(alloc, pair)?;
-    push(copies, copy)
+    push_pair(copies, copy)?;
+    Ok(())
 }
 
 /// The pair, and so many others that equal it.
