@@ -15,7 +15,7 @@ fn copy_regs(regs: &BTreeSet<Reg>) -> Result<BTreeSet<Reg>, OutOfMemory>
     Ok(copy)
 }
 
-/// A pair that equals p.
+/// A pair that equals p (docs/LEARNING.md, "A worker's unit"). It fails only where memory is refused.
 pub fn copy_pair(alloc: Global, p: &Pair) -> Result<Pair, OutOfMemory>
     ensures { IfOk result (λ copy. pair_of copy ≡ pair_of p.now) }
 {

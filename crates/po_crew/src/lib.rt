@@ -10,5 +10,6 @@ mod copies;
 mod sent;
 mod unit;
 
+pub use copies::copy_pair;
 pub use sent::{Sent, post_all};
 pub use unit::{Work, work_unit};

@@ -19,6 +19,7 @@ use po_model::{Code, Machine, Pair, Steps, UnitCode};
 use po_rule::AddRefusal;
 use po_slow::ScanState;
 use po_table::RuleTable;
+use po_tally::{Brief, shorten};
 use po_term::well_formed;
 use std::alloc::Global;
 use std::marker::Brand;
@@ -112,7 +113,16 @@ fn counts(reports: &[BlockReport]) -> (usize, usize) {
     (misses, used)
 }
 
-/// Whether the unit's work gives what a row says.
+/// Whether a brief tells of so many misses and hits, by at most so many rules.
+fn tells(brief: &Brief, misses: usize, used: usize, rules: usize) -> bool {
+    let mut hits = 0_u64;
+    for tally in &brief.tallies {
+        hits = hits.saturating_add(tally.more).saturating_add(1);
+    }
+    brief.misses.len() == misses && hits == used as u64 && brief.tallies.len() <= rules
+}
+
+/// Whether the unit's work, and the brief of it, give what a row says.
 fn works<L: Ledger>(
     alloc: Global,
     machine: &Arc<Machine>,
@@ -140,7 +150,9 @@ fn works<L: Ledger>(
     };
     let (work, _door) = work_unit(alloc, machine, door, &empty, &mut post, unit, steps)?;
     let (misses, used) = counts(&work.reports);
-    Ok(rules == 11 && (work.bare, misses, used, work.taken, work.dropped) == expected)
+    let counted = (work.bare, misses, used, work.taken, work.dropped);
+    let brief = shorten(alloc, work)?;
+    Ok(rules == 11 && counted == expected && tells(&brief, misses, used, rules))
 }
 
 fn text_works<L: Ledger>(alloc: Global, text: &[u8], row: Row, ledger: Blank) -> Result<bool, Fail>

@@ -1,12 +1,17 @@
 -- Sums, and how many sorted texts a list may have
 pub mod Sums
 pub mod Distinct
--- What the works of all units tell
+-- What the works of all units tell, and their briefs
+pub mod Reports
 pub mod Telling
--- Reports whose hits are looked up once more
+-- Briefs that are taken together
+pub mod Summing
+-- Hits that are looked up once more
 pub mod Relooking
 -- The rules that are written
 pub mod Writing
+-- The tries of all units, told by their rules
+pub mod ByRules
 -- How much was learned
 pub mod Ending
 -- The counts of a run

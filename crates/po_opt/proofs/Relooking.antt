@@ -1,11 +1,9 @@
--- Reports whose hits are looked up once more, hit after hit and report after report.
-use Rattle.std.proofs.Common.{◌≡◌, ℕ, ◌+◌, ◌≤◌, List, [], ◌∷◌, ◌++◌, drop, length, map, refl, sym, ◌∙◌, ap, subst}
-use Rattle.std.proofs.Common.{arith, append_assoc, append-nil}
+-- Hits that are looked up once more, tally after tally.
+use Rattle.std.proofs.Common.{◌≡◌, ℕ, ◌+◌, ◌⊎◌, List, [], ◌∷◌, ◌++◌, length, map, refl, sym, ◌∙◌, ap, subst, arith}
 use mathlib.Core.Logic.{inl, inr}
 use Rattle.std.specs.List.{All, Contains, sum_by}
-use Rattle.std.proofs.lemmas.List.{length-append, map-append}
-use Rattle.std.proofs.lemmas.List.Elements.{All-nil, All-head, All-tail, All-append, All-push, All-weaker, All-map}
-use Rattle.std.proofs.lemmas.List.Elements.{All-contains}
+use Rattle.std.proofs.lemmas.List.{length-append, map_push}
+use Rattle.std.proofs.lemmas.List.Elements.{All-nil, All-head, All-tail, All-push, All-contains}
 use Rattle.std.proofs.lemmas.List.Sums.{sum_by-cons, sum_by_push}
 use Rattle.po_model.specs.declared.machine.Machine.{Machine}
 use Rattle.po_model.specs.declared.pair.Pair.{Pair}
@@ -14,14 +12,14 @@ use Rattle.po_model.specs.Holed.{PlainRule}
 use Rattle.po_model.specs.Lookups.{AreCanonical, FitsRule}
 use Rattle.po_model.specs.Pairs.{PlainPair, pair_of, WellFormedPair}
 use Rattle.po_fore.specs.declared.report.Hit.{Hit}
-use Rattle.po_fore.specs.declared.report.BlockReport.{BlockReport}
 use Rattle.po_rule.specs.Posts.{RoseBy}
 use Rattle.po_crew.specs.Posted.{ArePosted, taken_of}
 use Rattle.po_crew.proofs.Posting.{not_risen, rose_on}
+use Rattle.po_tally.specs.declared.tally.Tally.{Tally}
+use Rattle.po_tally.specs.Tallies.{count_in, total}
 use Rattle.po_opt.specs.declared.relook.Relooked.{Relooked}
-use Rattle.po_opt.specs.Told.{IsHit, IsReport, hit_weight, miss_weight, weight_in, miss_count}
-use Rattle.po_opt.specs.Relooked.{HasRule, HasRules, IsLost, IsPut, IsRelooking, IsRelooked, ArePut, IsAdded}
-use Rattle.po_opt.specs.Relooked.{AreRelooking}
+use Rattle.po_opt.specs.Told.{IsHit, IsTally}
+use Rattle.po_opt.specs.Relooked.{HasRule, IsFound, IsLost, ArePut, IsAdded, AreRelooking, AreRelooked, AreSeen}
 
 -- a canonical rule that is found for the pair of a hit is the hit's rule
 pub found_rule : (m : Machine) (rules : List PlainRule) (h : Hit) (r : PlainRule) → AreCanonical m rules → IsHit m h
@@ -31,99 +29,12 @@ found_rule m rules h r canonical hit fits =
     (sym ((All-contains (Canonical m) rules r canonical fits.listed).rule (pair_of h.pair) hit.formed fits.instance)
     ∙ sym hit.rule) fits.listed
 
--- A report
-
-module _ (m : Machine) (rules : List PlainRule) (old : BlockReport) where
-  pub relooking_begin : (rest : List Hit) (new : BlockReport) → rest ≡ old.used.items → new.used.items ≡ []
-      → new.misses.items ≡ old.misses.items → IsReport m old → IsRelooking m rules old rest new
-  relooking_begin rest new all none missed is = record {
-    same = λ weight. omega (
-      arith,
-      ap (sum_by (hit_weight weight)) all,
-      ap (sum_by (hit_weight weight)) none,
-      ap (sum_by (miss_weight weight)) missed,
-    );
-    coming = subst (All (IsHit m)) (sym all) is.hits;
-    hits = subst (All (IsHit m)) (sym none) (All-nil (IsHit m));
-    found = subst (All (HasRule rules)) (sym none) (All-nil (HasRule rules));
-    lost = [];
-    misses = missed ∙ sym (append-nil old.misses.items);
-    without = All-nil (IsLost rules);
-  }
-
-  pub relooking_next : (rest more : List Hit) (h : Hit) (s t : BlockReport) → IsRelooking m rules old rest s
-      → rest ≡ h ∷ more → IsPut rules h s t → IsRelooking m rules old more t
-  relooking_next rest more h s t i e (inl (used, missed, found)) =
-      let coming : All (IsHit m) (h ∷ more) = subst (All (IsHit m)) e i.coming in
-      record {
-        same = λ weight. omega (
-          arith,
-          i.same weight,
-          ap (sum_by (hit_weight weight)) e,
-          ap (sum_by (hit_weight weight)) used,
-          ap (sum_by (miss_weight weight)) missed,
-          sum_by-cons (hit_weight weight) h more,
-          sum_by_push (hit_weight weight) s.used.items h,
-        );
-        coming = All-tail (IsHit m) h more coming;
-        hits = subst (All (IsHit m)) (sym used)
-            (All-push (IsHit m) s.used.items h i.hits (All-head (IsHit m) h more coming));
-        found = subst (All (HasRule rules)) (sym used) (All-push (HasRule rules) s.used.items h i.found found);
-        lost = i.lost;
-        misses = missed ∙ i.misses;
-        without = i.without;
-      }
-  relooking_next rest more h s t i e (inr (used, missed, lost)) =
-      let coming : All (IsHit m) (h ∷ more) = subst (All (IsHit m)) e i.coming in
-      record {
-        same = λ weight. omega (
-          arith,
-          i.same weight,
-          ap (sum_by (hit_weight weight)) e,
-          ap (sum_by (hit_weight weight)) used,
-          ap (sum_by (miss_weight weight)) missed,
-          sum_by-cons (hit_weight weight) h more,
-          sum_by_push (miss_weight weight) s.misses.items h.pair,
-        );
-        coming = All-tail (IsHit m) h more coming;
-        hits = subst (All (IsHit m)) (sym used) i.hits;
-        found = subst (All (HasRule rules)) (sym used) i.found;
-        lost = i.lost ++ h.pair ∷ [];
-        misses = missed ∙ ap (λ ps. ps ++ h.pair ∷ []) i.misses ∙ append_assoc old.misses.items i.lost (h.pair ∷ []);
-        without = All-push (IsLost rules) i.lost h.pair i.without lost;
-      }
-
-  pub relooking_end : (rest : List Hit) (new : BlockReport) → rest ≡ [] → IsRelooking m rules old rest new
-      → IsRelooked m rules old new
-  relooking_end rest new e i = subst (λ (hs : List Hit). IsRelooking m rules old hs new) e i
-
-  -- the misses behind those that were there
-  behind : (xs ys : List Pair) → drop (length xs) (xs ++ ys) ≡ ys
-  behind [] ys = refl
-  behind (x ∷ xs) ys = behind xs ys
-
-  pub misses_grow : (new : BlockReport) → IsRelooked m rules old new
-      → length old.misses.items ≤ length new.misses.items
-  misses_grow new i = omega (arith, ap length i.misses, length-append old.misses.items i.lost)
-
-  pub new_misses_formed : (new : BlockReport) → IsRelooked m rules old new
-      → All WellFormedPair (map pair_of (drop (length old.misses.items) new.misses.items))
-  new_misses_formed new i =
-      let e : drop (length old.misses.items) new.misses.items ≡ i.lost =
-      ap (drop (length old.misses.items)) i.misses ∙ behind old.misses.items i.lost in
-      subst (λ ps. All WellFormedPair (map pair_of ps)) (sym e)
-      (All-map WellFormedPair pair_of i.lost
-      (All-weaker (IsLost rules) (λ p. WellFormedPair (pair_of p)) (λ p l. l.formed) i.lost i.without))
-
-  relooked_report : (new : BlockReport) → IsReport m old → IsRelooked m rules old new → IsReport m new
-  relooked_report new is i = record {
-    hits = i.hits;
-    misses = subst (λ ps. All WellFormedPair (map pair_of ps)) (sym i.misses)
-        (subst (All WellFormedPair) (sym (map-append pair_of old.misses.items i.lost))
-        (All-append WellFormedPair (map pair_of old.misses.items) (map pair_of i.lost) is.misses
-        (All-map WellFormedPair pair_of i.lost
-        (All-weaker (IsLost rules) (λ p. WellFormedPair (pair_of p)) (λ p l. l.formed) i.lost i.without))));
-  }
+-- a copy of a well-formed pair behind others
+pub formed_push : (old new : List Pair) (p : Pair) (q : PlainPair) → new ≡ old ++ p ∷ [] → pair_of p ≡ q
+    → WellFormedPair q → All WellFormedPair (map pair_of old) → All WellFormedPair (map pair_of new)
+formed_push old new p q e same formed all =
+    subst (All WellFormedPair) (sym (ap (map pair_of) e ∙ map_push pair_of old p))
+    (All-push WellFormedPair (map pair_of old) (pair_of p) all (subst WellFormedPair (sym same) formed))
 
 -- Misses that were posted
 
@@ -141,69 +52,112 @@ put_on a b c f g h t d u e p q = record {
   full = rose_on d e f g h p.full q.full;
 }
 
--- All reports
+-- All tallies
 
-module _ (m : Machine) (rules : List PlainRule) (old : List BlockReport) where
-  pub reports_begin : (rest new : List BlockReport) (before : List PlainPair) (fulls taken dropped : ℕ) → rest ≡ old
-      → new ≡ [] → taken ≡ 0 → dropped ≡ 0 → All (IsReport m) old
-      → AreRelooking m rules old rest new before before fulls fulls taken dropped
-  reports_begin rest new before fulls taken dropped all none t d are = record {
-    same = λ weight. omega (arith, ap (sum_by (weight_in weight)) all, ap (sum_by (weight_in weight)) none);
-    coming = subst (All (IsReport m)) (sym all) are;
-    reports = subst (All (IsReport m)) (sym none) (All-nil (IsReport m));
-    found = subst (All (HasRules rules)) (sym none) (All-nil (HasRules rules));
-    misses = omega (arith, ap miss_count all, ap miss_count none);
+abbrev pair_in : Tally → Pair
+pair_in t = t.hit.pair
+
+abbrev one_hit : Tally → Hit
+one_hit t = t.hit
+
+module _ (m : Machine) (rules : List PlainRule) (old : List Tally) where
+  abbrev Has : Tally → Type 0
+  Has t = HasRule rules t.hit
+
+  pub relooking_begin : (rest : List Tally) (done : Relooked) (before : List PlainPair) (fulls : ℕ) → rest ≡ old
+      → done.hits.items ≡ [] → done.found ≡ 0 → done.lost.items ≡ [] → done.taken ≡ 0 → done.dropped ≡ 0
+      → All (IsTally m) old → AreRelooking m rules old rest done before before fulls fulls
+  relooking_begin rest done before fulls all hits found lost taken dropped are = record {
+    founds = [];
+    losts = [];
+    same = λ weight. omega (arith, ap (sum_by weight) all);
+    coming = subst (All (IsTally m)) (sym all) are;
+    are = All-nil (IsTally m);
+    has = All-nil Has;
+    hits = hits;
+    lost = lost;
+    found = found;
+    misses = omega (arith, taken, dropped);
     put = record {
-      took = omega arith;
-      full = subst (λ n. RoseBy n fulls fulls) (sym d) (not_risen fulls);
+      took = omega (arith, taken);
+      full = subst (λ n. RoseBy n fulls fulls) (sym dropped) (not_risen fulls);
     };
   }
 
-  pub reports_next : (rest more : List BlockReport) (r : BlockReport) (done next : Relooked)
-      (a b c : List PlainPair) (f g h : ℕ)
-      → AreRelooking m rules old rest done.reports.items a b f g done.taken done.dropped → rest ≡ r ∷ more
-      → IsAdded m rules r done next b c g h
-      → AreRelooking m rules old more next.reports.items a c f h next.taken next.dropped
-  reports_next rest more r done next a b c f g h i e x =
-      let coming : All (IsReport m) (r ∷ more) = subst (All (IsReport m)) e i.coming in
-      let is : IsReport m x.again =
-      relooked_report m rules r x.again (All-head (IsReport m) r more coming) x.relooked in
-      let put : ArePut a c f h (done.taken + x.taken) (done.dropped + x.dropped) =
-      put_on a b c f g h done.taken done.dropped x.taken x.dropped i.put x.put in
-      record {
-        same = λ weight.
-            let new : weight_in weight x.again + 0 ≡ weight_in weight r = x.relooked.same weight in
-            omega (
-              arith,
-              new,
-              i.same weight,
-              ap (sum_by (weight_in weight)) e,
-              ap (sum_by (weight_in weight)) x.reports,
-              sum_by-cons (weight_in weight) r more,
-              sum_by_push (weight_in weight) done.reports.items x.again,
-            );
-        coming = All-tail (IsReport m) r more coming;
-        reports = subst (All (IsReport m)) (sym x.reports)
-            (All-push (IsReport m) done.reports.items x.again i.reports is);
-        found = subst (All (HasRules rules)) (sym x.reports)
-            (All-push (HasRules rules) done.reports.items x.again i.found x.relooked.found);
-        misses = omega (
-          arith,
-          i.misses,
-          ap miss_count e,
-          ap miss_count x.reports,
-          x.all,
-          x.more_taken,
-          x.more_dropped,
-          sum_by-cons (λ (q : BlockReport). length q.misses.items) r more,
-          sum_by_push (λ (q : BlockReport). length q.misses.items) done.reports.items x.again,
-        );
-        put = subst (λ n. ArePut a c f h n next.dropped) (sym x.more_taken)
-            (subst (λ n. ArePut a c f h (done.taken + x.taken) n) (sym x.more_dropped) put);
-      }
+  module _ (rest more : List Tally) (t : Tally) (done next : Relooked) (a b c : List PlainPair) (f g h : ℕ)
+      (i : AreRelooking m rules old rest done a b f g) (e : rest ≡ t ∷ more) where
+    coming : All (IsTally m) (t ∷ more)
+    coming = subst (All (IsTally m)) e i.coming
 
-  pub reports_end : (rest new : List BlockReport) (a b : List PlainPair) (f g taken dropped : ℕ) → rest ≡ []
-      → AreRelooking m rules old rest new a b f g taken dropped
-      → AreRelooking m rules old [] new a b f g taken dropped
-  reports_end rest new a b f g taken dropped e i =
-      subst (λ (rs : List BlockReport). AreRelooking m rules old rs new a b f g taken dropped) e i
+    next_found : HasRule rules t.hit → IsFound t done next → c ≡ b → h ≡ g
+        → AreRelooking m rules old more next a c f h
+    next_found has x puts fulls = record {
+      founds = i.founds ++ t ∷ [];
+      losts = i.losts;
+      same = λ weight. omega (
+        arith,
+        i.same weight,
+        ap (sum_by weight) e,
+        sum_by-cons weight t more,
+        sum_by_push weight i.founds t,
+      );
+      coming = All-tail (IsTally m) t more coming;
+      are = i.are;
+      has = All-push Has i.founds t i.has has;
+      hits = x.hits ∙ ap (λ hs. hs ++ t.hit ∷ []) i.hits ∙ sym (map_push one_hit i.founds t);
+      lost = x.lost ∙ i.lost;
+      found = omega (arith, x.found, i.found, sum_by_push count_in i.founds t);
+      misses = omega (arith, x.taken, x.dropped, i.misses);
+      put = subst (λ ps. ArePut a ps f h next.taken next.dropped) (sym puts)
+          (subst (λ n. ArePut a b f n next.taken next.dropped) (sym fulls)
+          (subst (λ n. ArePut a b f g n next.dropped) (sym x.taken)
+          (subst (λ n. ArePut a b f g done.taken n) (sym x.dropped) i.put)));
+    }
+
+    next_lost : (taken dropped : ℕ) → IsLost t taken dropped done next → taken + dropped ≡ count_in t
+        → ArePut b c g h taken dropped → AreRelooking m rules old more next a c f h
+    next_lost taken dropped x sum put = record {
+      founds = i.founds;
+      losts = i.losts ++ t ∷ [];
+      same = λ weight. omega (
+        arith,
+        i.same weight,
+        ap (sum_by weight) e,
+        sum_by-cons weight t more,
+        sum_by_push weight i.losts t,
+      );
+      coming = All-tail (IsTally m) t more coming;
+      are = All-push (IsTally m) i.losts t i.are (All-head (IsTally m) t more coming);
+      has = i.has;
+      hits = x.hits ∙ i.hits;
+      lost = x.lost ∙ ap (λ ps. ps ++ t.hit.pair ∷ []) i.lost ∙ sym (map_push pair_in i.losts t);
+      found = omega (arith, x.found, i.found);
+      misses = omega (arith, x.taken_is, x.dropped_is, i.misses, sum, sum_by_push count_in i.losts t);
+      put = subst (λ n. ArePut a c f h n next.dropped) (sym x.taken_is)
+          (subst (λ n. ArePut a c f h (done.taken + taken) n) (sym x.dropped_is)
+          (put_on a b c f g h done.taken done.dropped taken dropped i.put put));
+    }
+
+    pub relooking_next : IsAdded rules t done next b c g h → AreRelooking m rules old more next a c f h
+    relooking_next (inl (has, x, puts, fulls)) = next_found has x puts fulls
+    relooking_next (inr (taken, dropped, x, sum, put)) = next_lost taken dropped x sum put
+
+  pub relooking_end : (rest : List Tally) (done : Relooked) (a b : List PlainPair) (f g : ℕ) → rest ≡ []
+      → AreRelooking m rules old rest done a b f g → AreRelooked m rules old done a b f g
+  relooking_end rest done a b f g e i = subst (λ (ts : List Tally). AreRelooking m rules old ts done a b f g) e i
+
+  pub seen_again : (done : Relooked) (a b : List PlainPair) (f g : ℕ) → AreRelooked m rules old done a b f g
+      → AreSeen m rules old done
+  seen_again done a b f g r = record {
+    founds = r.founds;
+    losts = r.losts;
+    same = λ weight.
+        let whole : sum_by weight r.founds + sum_by weight r.losts + 0 ≡ sum_by weight old = r.same weight in
+        omega (arith, whole);
+    are = r.are;
+    has = r.has;
+    hits = r.hits;
+    lost = r.lost;
+    found = r.found;
+    misses = r.misses;
+  }

@@ -1,11 +1,12 @@
--- What the works of all units tell.
+-- What the works of all units tell, and the briefs of them.
 use Rattle.std.proofs.Common.{◌≡◌, ℕ, suc, ◌+◌, List, [], ◌∷◌, ◌++◌, length, map, refl, sym, ◌∙◌, ap, subst}
 use Rattle.std.proofs.Common.{arith, get_or}
 use Rattle.std.specs.Prelude.{Some}
-use Rattle.std.specs.List.{All, AllZip, sum_by}
+use Rattle.std.specs.List.{All, AllZip, flat_map, sum_by}
 use Rattle.std.proofs.lemmas.List.Elements.{All-nil, All-cons, All-append, All-contains}
 use Rattle.std.proofs.lemmas.List.Sums.{sum_by-cons, sum_by-append}
-use Rattle.std.proofs.lemmas.List.{length-append, length-map, get_or-map}
+use Rattle.std.proofs.lemmas.Grind.{flat_map-append}
+use Rattle.std.proofs.lemmas.List.{length-append, length-map, get_or-map, map-append}
 use Rattle.po_model.specs.declared.code.UnitCode.{UnitCode}
 use Rattle.po_model.specs.declared.machine.Machine.{Machine}
 use Rattle.po_model.specs.Blocks.{code_of}
@@ -20,13 +21,19 @@ use Rattle.po_model.specs.UnitCodes.{PlainUnit, unit_of}
 use Rattle.po_fore.specs.declared.report.Hit.{Hit}
 use Rattle.po_fore.specs.declared.report.BlockReport.{BlockReport}
 use Rattle.po_fore.specs.Reports.{hit_of, TellsOf}
+use Rattle.po_settle.specs.Lines.{AreTried}
 use Rattle.po_crew.specs.declared.unit.Work.{Work}
-use Rattle.po_crew.specs.Units.{Passed, ArePassed, misses_in}
+use Rattle.po_crew.specs.Units.{Passed, ArePassed}
+use Rattle.po_crew.specs.Units.{misses_in as crew_misses}
 use Rattle.po_crew.proofs.Working.{block_steps, all_steps, goes_all}
+use Rattle.po_tally.specs.declared.brief.Brief.{Brief}
+use Rattle.po_tally.specs.declared.tally.Tally.{Tally}
+use Rattle.po_tally.specs.Briefs.{IsBriefOf, hits_in, missed_in}
+use Rattle.po_tally.specs.Tallies.{AreJoined, tally_of}
+use Rattle.po_tally.proofs.Joining.{joined_self, joined_beside}
 use Rattle.po_team.specs.Works.{IsWorkBy, AreWorksOf, taken_in, dropped_in}
-use Rattle.po_opt.specs.Told.{units_of, AreSlowed, IsHit, IsReport, hit_weight, miss_weight, weight_in, TellOf}
-use Rattle.po_opt.specs.Told.{AreTold}
-use Rattle.po_opt.specs.Told.{codes_in, reports_in, miss_count}
+use Rattle.po_opt.specs.Told.{units_of, AreSlowed, IsHit, codes_in, tallies_in, misses_in}
+use Rattle.po_opt.proofs.Reports.{IsReport, hit_weight, miss_weight, weight_in, TellOf, miss_count}
 use Rattle.po_opt.proofs.Sums.{sum_map}
 
 -- Tries
@@ -167,13 +174,13 @@ work_told m u w (told, h) =
 
 -- All works
 
-missed : (reports : List BlockReport) → length (misses_in reports) ≡ miss_count reports
+missed : (reports : List BlockReport) → length (crew_misses reports) ≡ miss_count reports
 missed [] = refl
 missed (r ∷ rs) = omega (
   arith,
   missed rs,
   length-map r.misses.items pair_of,
-  length-append (map pair_of r.misses.items) (misses_in rs),
+  length-append (map pair_of r.misses.items) (crew_misses rs),
   sum_by-cons (λ (q : BlockReport). length q.misses.items) r rs,
 )
 
@@ -181,27 +188,106 @@ missed (r ∷ rs) = omega (
 abbrev WorksOf : Machine → List UnitCode → List Work → Type 0
 WorksOf m codes works = AllZip (λ c w. IsWorkOf m (unit_of c) w) codes works
 
+-- the reports of all works, and what became of their misses
+abbrev pub reports_in : List Work → List BlockReport
+reports_in works = flat_map (λ w. w.reports.items) works
+
+abbrev work_taken : List Work → ℕ
+work_taken works = sum_by (λ w. w.taken) works
+
+abbrev work_dropped : List Work → ℕ
+work_dropped works = sum_by (λ w. w.dropped) works
+
+-- Briefs
+
+brief_units : (works : List Work) (briefs : List Brief) → AllZip IsBriefOf works briefs
+    → codes_in briefs ≡ map (λ w. w.unit) works
+brief_units [] [] h = refl
+brief_units [] (b ∷ bs) h = absurd h
+brief_units (w ∷ ws) [] h = absurd h
+brief_units (w ∷ ws) (b ∷ bs) h =
+    ap (λ (u : UnitCode). u ∷ codes_in bs) h.0.unit ∙ ap (λ us. w.unit ∷ us) (brief_units ws bs h.1)
+
+pub brief_taken : (works : List Work) (briefs : List Brief) → AllZip IsBriefOf works briefs
+    → (taken_in briefs ≡ work_taken works) × (dropped_in briefs ≡ work_dropped works)
+brief_taken [] [] h = (refl, refl)
+brief_taken [] (b ∷ bs) h = absurd h
+brief_taken (w ∷ ws) [] h = absurd h
+brief_taken (w ∷ ws) (b ∷ bs) h =
+    let others = brief_taken ws bs h.1 in (
+      omega (
+        arith,
+        others.0,
+        h.0.taken,
+        sum_by-cons (λ (c : Brief). c.taken) b bs,
+        sum_by-cons (λ (v : Work). v.taken) w ws,
+      ),
+      omega (
+        arith,
+        others.1,
+        h.0.dropped,
+        sum_by-cons (λ (c : Brief). c.dropped) b bs,
+        sum_by-cons (λ (v : Work). v.dropped) w ws,
+      ),
+    )
+
+pub brief_misses : (works : List Work) (briefs : List Brief) → AllZip IsBriefOf works briefs
+    → misses_in briefs ≡ missed_in (reports_in works)
+brief_misses [] [] h = refl
+brief_misses [] (b ∷ bs) h = absurd h
+brief_misses (w ∷ ws) [] h = absurd h
+brief_misses (w ∷ ws) (b ∷ bs) h =
+    ap (λ ps. ps ++ misses_in bs) h.0.misses ∙ ap (λ ps. missed_in w.reports.items ++ ps) (brief_misses ws bs h.1)
+    ∙ sym (flat_map-append (λ (r : BlockReport). r.misses.items) w.reports.items (reports_in ws))
+
+abbrev hit_tallies : List BlockReport → List Tally
+hit_tallies reports = map tally_of (hits_in reports)
+
+pub brief_tallies : (works : List Work) (briefs : List Brief) → AllZip IsBriefOf works briefs
+    → AreJoined (hit_tallies (reports_in works)) (tallies_in briefs)
+brief_tallies [] [] h = joined_self []
+brief_tallies [] (b ∷ bs) h = absurd h
+brief_tallies (w ∷ ws) [] h = absurd h
+brief_tallies (w ∷ ws) (b ∷ bs) h =
+    let both : hit_tallies (reports_in (w ∷ ws)) ≡ hit_tallies w.reports.items ++ hit_tallies (reports_in ws) =
+    ap (map tally_of) (flat_map-append (λ (r : BlockReport). r.used.items) w.reports.items (reports_in ws))
+    ∙ map-append tally_of (hits_in w.reports.items) (hits_in (reports_in ws)) in
+    subst (λ ts. AreJoined ts (tallies_in (b ∷ bs))) (sym both)
+    (joined_beside (hit_tallies w.reports.items) (hit_tallies (reports_in ws)) b.tallies.items (tallies_in bs)
+    h.0.tallies (brief_tallies ws bs h.1))
+
 module _ (m : Machine) where
   given : (c d : UnitCode) (w : Work) → Some d ≡ Some c → IsWorkOf m (unit_of c) w → IsWorkOf m (unit_of d) w
   given c d w e h =
       let same : d ≡ c = cc in
       subst (λ (x : UnitCode). IsWorkOf m (unit_of x) w) (sym same) h
 
-  zipped : (codes : List UnitCode) (works : List Work) → AreWorksOf m codes works → WorksOf m codes works
-  zipped [] [] h = tt
-  zipped [] (w ∷ ws) h = absurd (omega (arith, h.count))
-  zipped (c ∷ cs) [] h = absurd (omega (arith, h.count))
-  zipped (c ∷ cs) (w ∷ ws) h =
-      let first = h.each 0 w refl in (
-        given first.1.0 c w first.1.1 (first.0, first.1.2),
-        zipped cs ws (record {
-          count = omega (arith, h.count);
-          each = λ i v e. h.each (suc i) v e;
-        }),
-      )
+  -- the works behind briefs
+  pub record AreBehind (codes : List UnitCode) (briefs : List Brief) : Type 0 where
+    pub works : List Work
+    pub works_are : WorksOf m codes works
+    pub briefs_are : AllZip IsBriefOf works briefs
+
+  pub behind : (codes : List UnitCode) (briefs : List Brief) → AreWorksOf m codes briefs → AreBehind codes briefs
+  behind [] [] h = record { works = []; works_are = tt; briefs_are = tt }
+  behind [] (b ∷ bs) h = absurd (omega (arith, h.count))
+  behind (c ∷ cs) [] h = absurd (omega (arith, h.count))
+  behind (c ∷ cs) (b ∷ bs) h =
+      let (told, given_by) = h.each 0 b refl in
+      let (w, by, brief) = given_by in
+      let (u, at, is) = by in
+      let others = behind cs bs (record {
+        count = omega (arith, h.count);
+        each = λ i v e. h.each (suc i) v e;
+      }) in
+      record {
+        works = w ∷ others.works;
+        works_are = (given u c w at (told, is), others.works_are);
+        briefs_are = (brief, others.briefs_are);
+      }
 
   slowed_all : (codes : List UnitCode) (works : List Work) → WorksOf m codes works
-      → AreSlowed m (units_of codes) (units_of (codes_in works))
+      → AreSlowed m (units_of codes) (units_of (map (λ w. w.unit) works))
   slowed_all [] [] h = tt
   slowed_all [] (w ∷ ws) h = absurd h
   slowed_all (c ∷ cs) [] h = absurd h
@@ -209,13 +295,17 @@ module _ (m : Machine) where
 
   -- the pairs that were tried for all units, and the reports of them
   pub record AllTold (us : List PlainUnit) (reports : List BlockReport) : Type 0 where
-    pub told : AreTold m us reports
+    pub pairs : List PlainPair
+    pub tried : AreTried m us pairs
+    pub tell : TellOf reports pairs
     pub reports_are : All (IsReport m) reports
 
-  told_all : (codes : List UnitCode) (works : List Work) → WorksOf m codes works
+  pub told_all : (codes : List UnitCode) (works : List Work) → WorksOf m codes works
       → AllTold (units_of codes) (reports_in works)
   told_all [] [] h = record {
-    told = record { pairs = []; tried = refl; tell = λ weight. refl };
+    pairs = [];
+    tried = refl;
+    tell = λ weight. refl;
     reports_are = All-nil (IsReport m);
   }
   told_all [] (w ∷ ws) h = absurd h
@@ -224,22 +314,20 @@ module _ (m : Machine) where
       let here = work_told m (unit_of c) w h.0 in
       let others = told_all cs ws h.1 in
       record {
-        told = record {
-          pairs = here.pairs ++ others.told.pairs;
-          tried = (here.pairs, others.told.pairs, code_of w.unit.code, here.slowed, others.told.tried, refl);
-          tell = λ weight. omega (
-            arith,
-            here.tell weight,
-            others.told.tell weight,
-            sum_by-append (weight_in weight) w.reports.items (reports_in ws),
-            sum_by-append weight here.pairs others.told.pairs,
-          );
-        };
+        pairs = here.pairs ++ others.pairs;
+        tried = (here.pairs, others.pairs, code_of w.unit.code, here.slowed, others.tried, refl);
+        tell = λ weight. omega (
+          arith,
+          here.tell weight,
+          others.tell weight,
+          sum_by-append (weight_in weight) w.reports.items (reports_in ws),
+          sum_by-append weight here.pairs others.pairs,
+        );
         reports_are = All-append (IsReport m) w.reports.items (reports_in ws) here.reports others.reports_are;
       }
 
-  misses_all : (codes : List UnitCode) (works : List Work) → WorksOf m codes works
-      → taken_in works + dropped_in works ≡ miss_count (reports_in works)
+  pub misses_all : (codes : List UnitCode) (works : List Work) → WorksOf m codes works
+      → work_taken works + work_dropped works ≡ miss_count (reports_in works)
   misses_all [] [] h = refl
   misses_all [] (w ∷ ws) h = absurd h
   misses_all (c ∷ cs) [] h = absurd h
@@ -254,18 +342,8 @@ module _ (m : Machine) where
         sum_by-cons (λ (v : Work). v.dropped) w ws,
       )
 
-  pub works_slowed : (codes : List UnitCode) (works : List Work) → AreWorksOf m codes works
-      → AreSlowed m (units_of codes) (units_of (codes_in works))
-  works_slowed codes works h = slowed_all codes works (zipped codes works h)
-
-  pub works_told : (codes : List UnitCode) (works : List Work) → AreWorksOf m codes works
-      → AreTold m (units_of codes) (reports_in works)
-  works_told codes works h = (told_all codes works (zipped codes works h)).told
-
-  pub works_reports : (codes : List UnitCode) (works : List Work) → AreWorksOf m codes works
-      → All (IsReport m) (reports_in works)
-  works_reports codes works h = (told_all codes works (zipped codes works h)).reports_are
-
-  pub works_posted : (codes : List UnitCode) (works : List Work) → AreWorksOf m codes works
-      → taken_in works + dropped_in works ≡ miss_count (reports_in works)
-  works_posted codes works h = misses_all codes works (zipped codes works h)
+  pub slowed_behind : (codes : List UnitCode) (briefs : List Brief) (b : AreBehind codes briefs)
+      → AreSlowed m (units_of codes) (units_of (codes_in briefs))
+  slowed_behind codes briefs b =
+      subst (λ us. AreSlowed m (units_of codes) (units_of us)) (sym (brief_units b.works briefs b.briefs_are))
+      (slowed_all codes b.works b.works_are)

@@ -27,10 +27,11 @@ use Rattle.po_settle.specs.Reported.{hit_text, miss_text, report_texts, all_text
 use Rattle.po_settle.specs.Texts.{AreSorted, rule_texts}
 use Rattle.po_store.specs.declared.publisher.Entry.{Entry}
 use Rattle.po_store.specs.Logged.{Logged}
-use Rattle.po_opt.specs.Told.{IsHit, IsReport, weight_in, TellOf, hit_count, miss_count}
-use Rattle.po_opt.specs.Relooked.{HasRule, HasRules}
+use Rattle.po_opt.specs.Told.{IsHit}
+use Rattle.po_opt.specs.Relooked.{HasRule}
 use Rattle.po_opt.specs.Rules.{AreWritten}
 use Rattle.po_opt.proofs.Distinct.{no_more}
+use Rattle.po_opt.proofs.Reports.{IsReport, weight_in, TellOf, hit_count, miss_count}
 use Rattle.po_opt.proofs.Sums.{sum_map, sum_one, sum_same, sum_plus, sum_zeros}
 
 -- The same pairs have the same texts
@@ -83,7 +84,7 @@ module _ {A : Type 0} (f : A → List ℕ) where
       omega (arith, sum_by-cons (λ y. mark t (f y)) x xs)
 
   -- where two lists weigh as much, whatever their elements weigh, the texts of the one are texts of the other
-  texts_within : (xs ys : List A) → ((weight : A → ℕ) → sum_by weight xs ≡ sum_by weight ys)
+  pub texts_within : (xs ys : List A) → ((weight : A → ℕ) → sum_by weight xs ≡ sum_by weight ys)
       → All (Contains (map f ys)) (map f xs)
   texts_within xs ys e = All-weaker (Contains (map f xs)) (Contains (map f ys))
       (λ t c.
@@ -149,23 +150,32 @@ through : (xs ys zs : List (List ℕ)) → All (Contains ys) xs → All (Contain
 through xs ys zs h k =
     All-weaker (Contains ys) (Contains zs) (λ t c. All-contains (Contains zs) ys t k c) xs h
 
--- the texts that are written for reports which tell of these pairs are those of the rules of these pairs
-pub sorted_of : (m : Machine) (reports : List BlockReport) (pairs : List PlainPair) (texts : List (List ℕ))
-    → All (IsReport m) reports → TellOf reports pairs → AreSorted (all_texts m reports) texts
-    → AreSorted (rule_texts m pairs) texts
-sorted_of m reports pairs texts are tell s =
+-- the texts of reports which tell of these pairs are those of the rules of these pairs
+pub record AreTexts (m : Machine) (reports : List BlockReport) (pairs : List PlainPair) : Type 0 where
+  pub each : All (Contains (rule_texts m pairs)) (all_texts m reports)
+  pub all : All (Contains (all_texts m reports)) (rule_texts m pairs)
+
+pub told_texts : (m : Machine) (reports : List BlockReport) (pairs : List PlainPair) → All (IsReport m) reports
+    → TellOf reports pairs → AreTexts m reports pairs
+told_texts m reports pairs are tell =
     let f = made_text m in
     let e : all_texts m reports ≡ map f (all_pairs reports) = texts_are m reports are in
-    let told : AreSorted (map f (all_pairs reports)) texts = subst (λ ts. AreSorted ts texts) e s in
     let weigh : (weight : PlainPair → ℕ) → sum_by weight (all_pairs reports) ≡ sum_by weight pairs =
     λ weight. sym (pairs_weigh weight reports) ∙ tell weight in
     record {
-      sorted = told.sorted;
-      each = through texts (map f (all_pairs reports)) (map f pairs) told.each
-          (texts_within f (all_pairs reports) pairs weigh);
-      all = through (map f pairs) (map f (all_pairs reports)) texts
-          (texts_within f pairs (all_pairs reports) (λ weight. sym (weigh weight))) told.all;
+      each = subst (λ ts. All (Contains (map f pairs)) ts) (sym e) (texts_within f (all_pairs reports) pairs weigh);
+      all = subst (λ ts. All (Contains ts) (map f pairs)) (sym e)
+          (texts_within f pairs (all_pairs reports) (λ weight. sym (weigh weight)));
     }
+
+-- where two lists have the same texts, what is sorted of the one is sorted of the other
+pub sorted_as : (wanted others texts : List (List ℕ)) → All (Contains others) wanted → All (Contains wanted) others
+    → AreSorted wanted texts → AreSorted others texts
+sorted_as wanted others texts h k s = record {
+  sorted = s.sorted;
+  each = through texts wanted others s.each h;
+  all = through others wanted texts k s.all;
+}
 
 one_each : (r : BlockReport) → weight_in (λ p. 1) r ≡ length r.used.items + length r.misses.items
 one_each r = omega (arith, sum_one r.used.items, sum_one r.misses.items)
@@ -187,6 +197,10 @@ tries_are reports pairs tell =
     )
 
 -- How many rules there are
+
+-- the rules of all hits of a report are among these
+abbrev pub HasRules : List PlainRule → BlockReport → Type 0
+HasRules rules r = All (HasRule rules) r.used.items
 
 -- the text of the rule at a place
 abbrev text_at : List PlainRule → ℕ → List ℕ

@@ -12,14 +12,14 @@ use Rattle.po_opt.specs.declared.counts.Counts.{Counts}
 use Rattle.po_opt.specs.declared.finish.Opted.{Opted}
 use Rattle.po_opt.specs.Ended.{AreLearned}
 use Rattle.po_opt.specs.Rules.{AreWritten}
-use Rattle.po_opt.specs.Told.{AreSlowed, units_of, hit_count, miss_count}
+use Rattle.po_opt.specs.Told.{AreSlowed, units_of}
 
--- of reports: each is the sum of theirs, or is given
-pub record AreCounted (m : Machine) (reports : List BlockReport) (posted full learned : ℕ) (lines : List ℕ)
+-- of reports of all rules, with so many hits
+pub record AreCounted (m : Machine) (reports : List BlockReport) (hits posted full learned : ℕ) (lines : List ℕ)
     (c : Counts) : Type 0 where
   pub written : AreWritten m reports lines c.rules
-  pub hits : c.hits ≡ hit_count reports
-  pub misses : c.misses ≡ miss_count reports
+  pub hits_are : c.hits ≡ hits
+  pub misses : c.misses ≡ posted + full
   pub pairs : c.pairs ≡ c.hits + c.misses
   pub posted_is : c.posted ≡ posted
   pub full_is : c.full ≡ full

@@ -1,5 +1,5 @@
--- What reports tell of: which pairs were tried, and by which rules.
-use Rattle.std.specs.Prelude.{ℕ, ◌≡◌, ◌+◌, List, All, length, map, sum_by}
+-- What the briefs of all units tell of: which pairs were tried, and by which rules.
+use Rattle.std.specs.Prelude.{ℕ, ◌≡◌, ◌+◌, ◌++◌, List, All, Contains, length, map}
 use Rattle.std.specs.Arc.{arc_value}
 use Rattle.std.specs.List.{AllZip, flat_map}
 use Rattle.po_model.specs.declared.code.UnitCode.{UnitCode}
@@ -8,13 +8,16 @@ use Rattle.po_model.specs.declared.pair.Pair.{Pair}
 use Rattle.po_model.specs.Generalised.{generalised}
 use Rattle.po_model.specs.Holed.{rule_of}
 use Rattle.po_model.specs.Pairs.{PlainPair, pair_of, WellFormedPair}
+use Rattle.po_model.specs.RuleText.{rule_text}
 use Rattle.po_model.specs.UnitCodes.{PlainUnit, unit_of}
 use Rattle.po_slow.specs.Passes.{IsSlowedUnit}
 use Rattle.po_fore.specs.declared.report.Hit.{Hit}
-use Rattle.po_fore.specs.declared.report.BlockReport.{BlockReport}
 use Rattle.po_settle.specs.Lines.{AreTried}
-use Rattle.po_settle.specs.Reported.{HasFormedMisses}
-use Rattle.po_crew.specs.declared.unit.Work.{Work}
+use Rattle.po_settle.specs.Reported.{miss_text}
+use Rattle.po_settle.specs.Texts.{rule_texts}
+use Rattle.po_tally.specs.declared.brief.Brief.{Brief}
+use Rattle.po_tally.specs.declared.tally.Tally.{Tally}
+use Rattle.po_tally.specs.Tallies.{rule_in, total}
 
 abbrev pub units_of : List UnitCode → List PlainUnit
 units_of codes = map unit_of codes
@@ -28,41 +31,31 @@ pub record IsHit (m : Machine) (h : Hit) : Type 0 where
   pub formed : WellFormedPair (pair_of h.pair)
   pub rule : rule_of (arc_value h.rule) ≡ generalised m (pair_of h.pair)
 
--- a report of hits and misses
-pub record IsReport (m : Machine) (r : BlockReport) : Type 0 where
-  pub hits : All (IsHit m) r.used.items
-  pub misses : HasFormedMisses r
+-- the hit of a tally
+abbrev pub IsTally : Machine → Tally → Type 0
+IsTally m t = IsHit m t.hit
 
--- what hits weigh, misses, and all pairs of a report
-abbrev pub hit_weight : (PlainPair → ℕ) → Hit → ℕ
-hit_weight weight h = weight (pair_of h.pair)
+-- the texts of the rules of tallies, and of all tries
+abbrev pub tally_text : Tally → List ℕ
+tally_text t = rule_text (rule_in t)
 
-abbrev pub miss_weight : (PlainPair → ℕ) → Pair → ℕ
-miss_weight weight p = weight (pair_of p)
+abbrev pub texts_told : Machine → List Tally → List Pair → List (List ℕ)
+texts_told m tallies misses = map tally_text tallies ++ map (miss_text m) misses
 
-abbrev pub weight_in : (PlainPair → ℕ) → BlockReport → ℕ
-weight_in weight r = sum_by (hit_weight weight) r.used.items + sum_by (miss_weight weight) r.misses.items
-
--- reports tell of these pairs, each as often: whatever pairs weigh, those of the reports weigh as much
-abbrev pub TellOf : List BlockReport → List PlainPair → Type 0
-TellOf reports pairs = (weight : PlainPair → ℕ) → sum_by (weight_in weight) reports ≡ sum_by weight pairs
-
--- reports tell of the pairs that all passes over these units try
-pub record AreTold (m : Machine) (us : List PlainUnit) (reports : List BlockReport) : Type 0 where
+-- tallies and misses tell of the pairs that all passes over these units try: as many, and of the same rules
+pub record AreTold (m : Machine) (us : List PlainUnit) (tallies : List Tally) (misses : List Pair) : Type 0 where
   pub pairs : List PlainPair
   pub tried : AreTried m us pairs
-  pub tell : TellOf reports pairs
+  pub count : total tallies + length misses ≡ length pairs
+  pub each : All (Contains (rule_texts m pairs)) (texts_told m tallies misses)
+  pub all : All (Contains (texts_told m tallies misses)) (rule_texts m pairs)
 
--- how many hits and misses there are
-abbrev pub hit_count : List BlockReport → ℕ
-hit_count reports = sum_by (λ r. length r.used.items) reports
+-- the codes, the tallies and the misses of all briefs
+abbrev pub codes_in : List Brief → List UnitCode
+codes_in briefs = map (λ b. b.unit) briefs
 
-abbrev pub miss_count : List BlockReport → ℕ
-miss_count reports = sum_by (λ r. length r.misses.items) reports
+abbrev pub tallies_in : List Brief → List Tally
+tallies_in briefs = flat_map (λ b. b.tallies.items) briefs
 
--- the codes and the reports of all works
-abbrev pub codes_in : List Work → List UnitCode
-codes_in works = map (λ w. w.unit) works
-
-abbrev pub reports_in : List Work → List BlockReport
-reports_in works = flat_map (λ w. w.reports.items) works
+abbrev pub misses_in : List Brief → List Pair
+misses_in briefs = flat_map (λ b. b.misses.items) briefs

@@ -1,8 +1,6 @@
 //! The counts of a run.
 ghost use Rattle.std.specs.Prelude.{◌≡◌, ◌+◌, IfOk};
-ghost use Rattle.po_opt.specs.Told.{hit_count, miss_count};
 
-use po_fore::BlockReport;
 use po_word::OutOfMemory;
 
 /// The counts of a run (docs/LEARNING.md, "Behind the join").
@@ -32,28 +30,4 @@ pub(crate) fn added(count: u64, more: u64) -> Result<u64, OutOfMemory>
         Some(sum) => Ok(sum),
         None => Err(OutOfMemory),
     }
-}
-
-/// How many hits these reports have (docs/LEARNING.md, "Behind the join"). It answers OutOfMemory where the number has
-/// no 64 bits.
-pub fn hit_count(reports: &[BlockReport]) -> Result<u64, OutOfMemory>
-    ensures { IfOk result (λ n. n ≡ hit_count reports.now) }
-{
-    let mut count = 0;
-    for r in reports {
-        count = added(count, r.used.len() as u64)?;
-    }
-    Ok(count)
-}
-
-/// How many misses these reports have (docs/LEARNING.md, "Behind the join"). It answers OutOfMemory where the number
-/// has no 64 bits.
-pub fn miss_count(reports: &[BlockReport]) -> Result<u64, OutOfMemory>
-    ensures { IfOk result (λ n. n ≡ miss_count reports.now) }
-{
-    let mut count = 0;
-    for r in reports {
-        count = added(count, r.misses.len() as u64)?;
-    }
-    Ok(count)
 }

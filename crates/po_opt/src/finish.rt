@@ -1,9 +1,10 @@
 //! The end of a run: from what is left when all threads have ended to the codes, the rules and the counts.
-ghost use Rattle.std.specs.Prelude.{◌≡◌, ◌+◌, ◌<◌, ◌≤◌, ◌++◌, ◌∷◌, [], List, All, length, IfOk, OnOk};
+ghost use Rattle.std.specs.Prelude.{◌≡◌, ◌+◌, ◌<◌, ◌≤◌, ◌++◌, ◌∷◌, [], List, All, length, map, IfOk, OnOk};
 ghost use Rattle.std.specs.Arc.{arc_value};
 ghost use Rattle.std.specs.List.{sum_by};
 ghost use Rattle.po_model.specs.Lookups.{AreCanonical};
 ghost use Rattle.po_model.specs.Machines.{IsMachine};
+ghost use Rattle.po_model.specs.Pairs.{pair_of, WellFormedPair};
 ghost use Rattle.po_model.specs.UnitCodes.{PlainUnit};
 ghost use Rattle.po_queue.specs.Passes.{IsOf, new_pass, put_count};
 ghost use Rattle.po_settle.specs.Reported.{HasFormedMisses};
@@ -11,19 +12,20 @@ ghost use Rattle.po_team.specs.Ends.{HaveMetFull, take_count};
 ghost use Rattle.po_team.specs.Works.{IsPosting};
 ghost use Rattle.po_opt.specs.Counts.{AreCounted, AreCounts};
 ghost use Rattle.po_opt.specs.Relooked.{AreSeen};
-ghost use Rattle.po_opt.specs.Told.{AreTold, IsReport, miss_count};
+ghost use Rattle.po_opt.specs.Told.{AreTold, IsTally};
 
-use crate::counts::{Counts, added, hit_count, miss_count};
+use crate::counts::{Counts, added};
 use crate::relook::{Relooked, look_again};
 use crate::rest::end_learning;
 use crate::rules::{Written, write_rules};
 use crate::works::Told;
-use po_fore::BlockReport;
-use po_model::{Machine, UnitCode};
+use po_fore::{BlockReport, Hit};
+use po_model::{Machine, Pair, UnitCode};
 use po_pool::{Bell, Gate};
 use po_queue::{Pass, Posts};
 use po_rule::{Lookup, Miss, Table};
 use po_store::{Edition, Publisher, StoreName};
+use po_tally::Tally;
 use po_team::Outbox;
 use po_word::{OutOfMemory, push};
 use std::alloc::Global;
@@ -38,7 +40,7 @@ pub struct Opted {
     pub counts: Counts,
 }
 
-/// Reports whose hits were looked up once more, and the pass with which the new misses were put.
+/// Hits that were looked up once more, and the pass with which the new misses were put.
 #[derive(Drop)]
 struct Again {
     relooked: Relooked,
@@ -53,26 +55,25 @@ struct Counted {
     counts: Counts,
 }
 
-/// Looks the hits of these reports up once more, with a pass of its own.
+/// Looks the hits of these tallies up once more, with a pass of its own.
 fn see_again<T: Lookup, W: Wait>(
     rt: &W,
     alloc: Global,
     table: &T,
     posts: &Posts<Miss>,
     pass: Pass<Miss>,
-    reports: Vec<BlockReport>,
+    tallies: Vec<Tally>,
 ) -> Result<Again, OutOfMemory>
     requires canonical { AreCanonical (T.machine table.now) (T.rules table.now) }
-    requires reports { All (IsReport (T.machine table.now)) reports.items }
+    requires tallies { All (IsTally (T.machine table.now)) tallies.items }
     requires pass { pass ≡ new_pass posts.now.queue }
-    ensures seen { IfOk result (λ a. AreSeen (T.machine table.now) (T.rules table.now) reports.items
-        a.relooked.reports.items a.relooked.taken a.relooked.dropped) }
+    ensures seen { IfOk result (λ a. AreSeen (T.machine table.now) (T.rules table.now) tallies.items a.relooked) }
     ensures posting { IfOk result
         (λ a. IsPosting posts.now.queue a.pass a.fulls a.relooked.taken a.relooked.dropped) }
 {
     let bell = Bell::new();
     let mut post = Outbox::new(rt, posts, &bell, pass, 0);
-    let relooked = look_again(alloc, table, &mut post, reports)?;
+    let relooked = look_again(alloc, table, &mut post, tallies)?;
     let (pass, fulls) = post.into_parts();
     Ok(Again {
         relooked,
@@ -81,12 +82,58 @@ fn see_again<T: Lookup, W: Wait>(
     })
 }
 
-/// Writes the rules of these reports and counts them.
+/// Puts misses behind these.
+fn append(misses: &mut Vec<Pair>, others: Vec<Pair>) -> Result<(), OutOfMemory>
+    ensures { OnOk result (misses.new.items ≡ misses.old.items ++ others.items) }
+{
+    for pair in others {
+        push(misses, pair)?;
+    }
+    Ok(())
+}
+
+/// One report of all tries: a hit of each rule that is published, and the misses, with those that were hits.
+fn report_of(
+    hits: Vec<Hit>,
+    misses: Vec<Pair>,
+    lost: Vec<Pair>,
+) -> Result<BlockReport, OutOfMemory>
+    ensures used { IfOk result (λ r. r.used.items ≡ hits.items) }
+    ensures misses { IfOk result (λ r. r.misses.items ≡ misses.items ++ lost.items) }
+{
+    let mut misses = misses;
+    append(&mut misses, lost)?;
+    let tried = added(hits.len() as u64, misses.len() as u64)?;
+    Ok(BlockReport {
+        used: hits,
+        misses,
+        tried,
+    })
+}
+
+/// Puts a report behind these.
+fn push_report(reports: &mut Vec<BlockReport>, report: BlockReport) -> Result<(), OutOfMemory>
+    ensures { OnOk result (reports.new.items ≡ reports.old.items ++ report ∷ []) }
+{
+    push(reports, report)
+}
+
+/// The report alone.
+fn alone(alloc: Global, report: BlockReport) -> Result<Vec<BlockReport>, OutOfMemory>
+    ensures { IfOk result (λ rs. rs.items ≡ report ∷ []) }
+{
+    let mut reports = Vec::new(alloc);
+    push_report(&mut reports, report)?;
+    Ok(reports)
+}
+
+/// Writes the rules of this report and counts all.
 fn count<T: Lookup>(
     alloc: Global,
     machine: &Arc<Machine>,
     table: &T,
     reports: Vec<BlockReport>,
+    hits: u64,
     posted: u64,
     full: u64,
     learned: u64,
@@ -94,11 +141,10 @@ fn count<T: Lookup>(
     requires machine { IsMachine (arc_value machine.now) }
     requires canonical { AreCanonical (arc_value machine.now) (T.rules table.now) }
     requires formed { All HasFormedMisses reports.items }
-    ensures { IfOk result (λ c. AreCounted (arc_value machine.now) reports.items posted full learned c.rules.items
-        c.counts) }
+    ensures { IfOk result (λ c. AreCounted (arc_value machine.now) reports.items hits posted full learned
+        c.rules.items c.counts) }
 {
-    let hits = hit_count(&reports)?;
-    let misses = miss_count(&reports)?;
+    let misses = added(posted, full)?;
     let pairs = added(hits, misses)?;
     let Written { lines, count } = write_rules(alloc, machine, table, reports)?;
     let counts = Counts {
@@ -141,8 +187,9 @@ pub fn end_run<V: Edition<T, L>, T: Table + Drop, L: StoreName, R: Wait + Drop, 
 ) -> Result<Opted, OutOfMemory>
     requires named { arc_value machine.now ≡ L.machine }
     requires described { IsMachine (arc_value machine.now) }
-    requires reports { All (IsReport (arc_value machine.now)) told.reports.items }
-    requires posted { told.taken + told.dropped ≡ miss_count told.reports.items }
+    requires tallies { All (IsTally (arc_value machine.now)) told.tallies.items }
+    requires formed { All WellFormedPair (map pair_of told.misses.items) }
+    requires posted { told.taken + told.dropped ≡ length told.misses.items }
     requires pass { pass ≡ new_pass posts.queue }
     requires queue { All (IsOf posts.queue) passes.items }
     requires passes { sum_by (λ p. p.parts) passes.items + 1 ≡ posts.passes }
@@ -154,27 +201,32 @@ pub fn end_run<V: Edition<T, L>, T: Table + Drop, L: StoreName, R: Wait + Drop, 
     requires counted { sum_by (λ s. s.amount) shares.items ≤ take_count passes.items }
     requires lost { take_count passes.items ≤ sum_by (λ s. s.amount) shares.items + length shares.items }
     ensures codes { IfOk result (λ o. o.codes.items ≡ told.codes.items) }
-    ensures counts { IfOk result (λ o. (us : List PlainUnit) → AreTold (arc_value machine.now) us told.reports.items
+    ensures counts { IfOk result (λ o. (us : List PlainUnit) → AreTold (arc_value machine.now) us told.tallies.items
+        told.misses.items
         → AreCounts (arc_value machine.now) us posts.queue.capacity (length shares.items) o.rules.items o.counts) }
 {
     let Told {
         codes,
-        reports,
+        tallies,
+        misses,
         taken,
         dropped,
     } = told;
-    let again = see_again(rt, alloc, publisher.table(), &posts, pass, reports)?;
+    let again = see_again(rt, alloc, publisher.table(), &posts, pass, tallies)?;
     let Again { relooked, pass, .. } = again;
     let posted = added(taken, relooked.taken)?;
     let full = added(dropped, relooked.dropped)?;
     let mut passes = passes;
     push_pass(&mut passes, pass)?;
     let learned = end_learning(rt, alloc, gate, machine, publisher, posts, passes, shares)?;
+    let report = report_of(relooked.hits, misses, relooked.lost)?;
+    let reports = alone(alloc, report)?;
     let counted = count(
         alloc,
         machine,
         publisher.table(),
-        relooked.reports,
+        reports,
+        relooked.found,
         posted,
         full,
         learned,

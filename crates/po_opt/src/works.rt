@@ -1,34 +1,36 @@
-//! The results of all units, taken apart.
+//! The briefs of all units, taken apart.
 ghost use Rattle.std.specs.Prelude.{◌≡◌, ◌+◌, ◌++◌, ◌∷◌, [], IfOk, OnOk};
+ghost use Rattle.po_tally.specs.Tallies.{AreJoined};
 ghost use Rattle.po_team.specs.Works.{taken_in, dropped_in};
-ghost use Rattle.po_opt.specs.Told.{codes_in, reports_in};
+ghost use Rattle.po_opt.specs.Told.{codes_in, tallies_in, misses_in};
 
 use crate::counts::added;
-use po_crew::Work;
-use po_fore::BlockReport;
-use po_model::UnitCode;
+use po_model::{Pair, UnitCode};
+use po_tally::{Brief, Tally, join};
 use po_word::{OutOfMemory, push};
 use std::alloc::Global;
 
-/// What all works hold together (docs/LEARNING.md, "Behind the join").
+/// What all briefs hold together (docs/LEARNING.md, "Behind the join").
 #[derive(Drop)]
 pub struct Told {
     /// The units that were made, in order.
     pub codes: Vec<UnitCode>,
-    /// All reports, in order.
-    pub reports: Vec<BlockReport>,
+    /// The hits of all units, each rule once.
+    pub tallies: Vec<Tally>,
+    /// The misses of all units, in order.
+    pub misses: Vec<Pair>,
     /// How many misses the queue took.
     pub taken: u64,
     /// How many it didn't.
     pub dropped: u64,
 }
 
-/// Puts reports behind these.
-fn append(reports: &mut Vec<BlockReport>, more: Vec<BlockReport>) -> Result<(), OutOfMemory>
-    ensures { OnOk result (reports.new.items ≡ reports.old.items ++ more.items) }
+/// Puts misses behind these.
+fn append(misses: &mut Vec<Pair>, others: Vec<Pair>) -> Result<(), OutOfMemory>
+    ensures { OnOk result (misses.new.items ≡ misses.old.items ++ others.items) }
 {
-    for report in more {
-        push(reports, report)?;
+    for pair in others {
+        push(misses, pair)?;
     }
     Ok(())
 }
@@ -44,42 +46,48 @@ impl Told {
     /// Nothing yet.
     fn new(alloc: Global) -> Told
         ensures codes { result.codes.items ≡ [] }
-        ensures reports { result.reports.items ≡ [] }
+        ensures tallies { result.tallies.items ≡ [] }
+        ensures misses { result.misses.items ≡ [] }
         ensures taken { result.taken ≡ 0 }
         ensures dropped { result.dropped ≡ 0 }
     {
         Told {
             codes: Vec::new(alloc),
-            reports: Vec::new(alloc),
+            tallies: Vec::new(alloc),
+            misses: Vec::new(alloc),
             taken: 0,
             dropped: 0,
         }
     }
 
-    /// One work more.
-    fn add(&mut self, work: Work) -> Result<(), OutOfMemory>
-        ensures codes { OnOk result (self.new.codes.items ≡ self.old.codes.items ++ work.unit ∷ []) }
-        ensures reports { OnOk result (self.new.reports.items ≡ self.old.reports.items ++ work.reports.items) }
-        ensures taken { OnOk result (self.new.taken ≡ self.old.taken + work.taken) }
-        ensures dropped { OnOk result (self.new.dropped ≡ self.old.dropped + work.dropped) }
+    /// One brief more.
+    fn add(&mut self, brief: Brief) -> Result<(), OutOfMemory>
+        ensures codes { OnOk result (self.new.codes.items ≡ self.old.codes.items ++ brief.unit ∷ []) }
+        ensures tallies { OnOk result
+            (AreJoined (self.old.tallies.items ++ brief.tallies.items) self.new.tallies.items) }
+        ensures misses { OnOk result (self.new.misses.items ≡ self.old.misses.items ++ brief.misses.items) }
+        ensures taken { OnOk result (self.new.taken ≡ self.old.taken + brief.taken) }
+        ensures dropped { OnOk result (self.new.dropped ≡ self.old.dropped + brief.dropped) }
     {
-        self.taken = added(self.taken, work.taken)?;
-        self.dropped = added(self.dropped, work.dropped)?;
-        push_code(&mut self.codes, work.unit)?;
-        append(&mut self.reports, work.reports)
+        self.taken = added(self.taken, brief.taken)?;
+        self.dropped = added(self.dropped, brief.dropped)?;
+        push_code(&mut self.codes, brief.unit)?;
+        join(&mut self.tallies, brief.tallies)?;
+        append(&mut self.misses, brief.misses)
     }
 }
 
-/// What all works hold together (docs/LEARNING.md, "Behind the join"). It fails only where memory is refused.
-pub fn tell(alloc: Global, works: Vec<Work>) -> Result<Told, OutOfMemory>
-    ensures codes { IfOk result (λ t. t.codes.items ≡ codes_in works.items) }
-    ensures reports { IfOk result (λ t. t.reports.items ≡ reports_in works.items) }
-    ensures taken { IfOk result (λ t. t.taken ≡ taken_in works.items) }
-    ensures dropped { IfOk result (λ t. t.dropped ≡ dropped_in works.items) }
+/// What all briefs hold together (docs/LEARNING.md, "Behind the join"). It fails only where memory is refused.
+pub fn tell(alloc: Global, briefs: Vec<Brief>) -> Result<Told, OutOfMemory>
+    ensures codes { IfOk result (λ t. t.codes.items ≡ codes_in briefs.items) }
+    ensures tallies { IfOk result (λ t. AreJoined (tallies_in briefs.items) t.tallies.items) }
+    ensures misses { IfOk result (λ t. t.misses.items ≡ misses_in briefs.items) }
+    ensures taken { IfOk result (λ t. t.taken ≡ taken_in briefs.items) }
+    ensures dropped { IfOk result (λ t. t.dropped ≡ dropped_in briefs.items) }
 {
     let mut told = Told::new(alloc);
-    for work in works {
-        told.add(work)?;
+    for brief in briefs {
+        told.add(brief)?;
     }
     Ok(told)
 }

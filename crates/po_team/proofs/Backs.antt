@@ -8,7 +8,7 @@ use Rattle.std.proofs.lemmas.List.Elements.{All-nil, All-cons, All-append, All-h
 use Rattle.std.proofs.lemmas.List.Sums.{sum_by-cons, sum_by-append}
 use Rattle.std.proofs.Math.Nat.{div-le_self}
 use Rattle.po_queue.specs.Passes.{QueueId, PassView, IsOf}
-use Rattle.po_crew.specs.declared.unit.Work.{Work}
+use Rattle.po_tally.specs.declared.brief.Brief.{Brief}
 use Rattle.po_pool.specs.Worked.{first_unit, EachAt}
 use Rattle.po_team.specs.Ends.{AreBack, HaveMetFull, passes_in, take_count}
 use Rattle.po_team.specs.Seats.{HasLearned, most_lost}
@@ -59,8 +59,8 @@ module _ {T : Type 0} (queue : QueueId) where
 
   -- the passes of workers, which took nothing, from a place on
   module _ {S : Type 0} (pass : S → Option (PassView T)) (fulls : S → ℕ) (units workers : ℕ) (some : 0 < workers)
-      (outs : List Work) where
-    abbrev HasIts : S → List Work → Type 0
+      (outs : List Brief) where
+    abbrev HasIts : S → List Brief → Type 0
     HasIts s os = HasPosted queue (pass s) (fulls s) (taken_in os) (dropped_in os)
 
     -- they are back, and took nothing
@@ -73,7 +73,7 @@ module _ {T : Type 0} (queue : QueueId) where
     none_from : (p : ℕ) → given_from units workers some outs p ≡ [] → BackFrom p []
     none_from p e =
         let back : AreBack {T = T} queue 0 0 0 [] = back_nil in
-        (subst (λ (os : List Work). AreBack {T = T} queue 0 (taken_in os) (dropped_in os) []) (sym e) back, refl)
+        (subst (λ (os : List Brief). AreBack {T = T} queue 0 (taken_in os) (dropped_in os) []) (sym e) back, refl)
 
     one_from : (p : ℕ) (s : S) (seats : List S) → HasIts s (given units workers some outs p) → BackFrom (p + 1) seats
         → BackFrom p (s ∷ seats)
@@ -96,9 +96,9 @@ module _ {T : Type 0} (queue : QueueId) where
               (sym passes)
               (subst (λ (n : ℕ). AreBack queue (suc (length seats)) n
               (dropped_in (given_from units workers some outs p)) (q ∷ passes_in (map pass seats)))
-              (splits units workers some outs (λ (w : Work). w.taken) p)
+              (splits units workers some outs (λ (b : Brief). b.taken) p)
               (subst (λ (n : ℕ). AreBack queue (suc (length seats)) (taken_in here + taken_in behind) n
-              (q ∷ passes_in (map pass seats))) (splits units workers some outs (λ (w : Work). w.dropped) p) all)),
+              (q ∷ passes_in (map pass seats))) (splits units workers some outs (λ (b : Brief). b.dropped) p) all)),
           ap take_count passes ∙ took,
         )
 

@@ -1,4 +1,4 @@
--- Machines, codes, works, seats, and what workers and learners share may cross threads: from one part to the next,
+-- Machines, codes, briefs, seats, and what workers and learners share may cross threads: from one part to the next,
 -- each by a search of its own.
 use denote.RattleType.{RattleType}
 use denote.Param.Send.{IsSend, IsSync, sendable}
@@ -16,8 +16,6 @@ use Rattle.std.specs.contracts.sync.Mutex as Mutex
 use Rattle.std.proofs.option.Option.TheSendSync as option
 use Rattle.std.proofs.sync.ledger.Share.TheSendSync as share
 use Rattle.std.specs.declared.sync.ledger.Ledger as Ledger
-use Rattle.po_crew.specs.contracts.unit.Work as Work
-use Rattle.po_fore.specs.contracts.report.BlockReport as BlockReport
 use Rattle.po_fore.specs.contracts.report.Hit as Hit
 use Rattle.po_model.proofs.machine.PatTerm.TheLaws.TheKnot as pattern
 use Rattle.po_model.specs.contracts.code.Block as Block
@@ -42,6 +40,8 @@ use Rattle.po_team.proofs.way.Way.TheSendSync as way
 use Rattle.po_team.specs.contracts.learners.LearnerSeat as LearnerSeat
 use Rattle.po_team.specs.contracts.learners.Learners as Learners
 use Rattle.po_team.specs.contracts.taught.Taught as Taught
+use Rattle.po_tally.specs.contracts.brief.Brief as Brief
+use Rattle.po_tally.specs.contracts.tally.Tally as Tally
 use Rattle.po_team.specs.contracts.workers.WorkerSeat as WorkerSeat
 use Rattle.po_team.specs.contracts.workers.Workers as Workers
 
@@ -107,7 +107,7 @@ machine_field_sync = search (entry_sync, crosses, sendable) depth 60 fits 20000
 pub machine_sync : IsSync Machine.the_row
 machine_sync = search (machine_field_sync, crosses, sendable) depth 60 fits 20000
 
--- codes and works
+-- codes and briefs
 
 pub block_field_send : IsSend (Block.the_field).row
 block_field_send = search (instruction_send, crosses, sendable) depth 60 fits 20000
@@ -157,29 +157,29 @@ hit_field_sync = search (pair_field_sync, rule_send, rule_sync, crosses, sendabl
 pub hit_sync : IsSync Hit.the_row
 hit_sync = search (hit_field_sync, crosses, sendable) depth 60 fits 20000
 
-pub report_field_send : IsSend (BlockReport.the_field).row
-report_field_send = search (hit_send, pair_send, crosses, sendable) depth 60 fits 20000
+pub tally_field_send : IsSend (Tally.the_field).row
+tally_field_send = search (hit_field_send, crosses, sendable) depth 60 fits 20000
 
-pub report_send : IsSend BlockReport.the_row
-report_send = search (report_field_send, crosses, sendable) depth 60 fits 20000
+pub tally_send : IsSend Tally.the_row
+tally_send = search (tally_field_send, crosses, sendable) depth 60 fits 20000
 
-pub report_field_sync : IsSync (BlockReport.the_field).row
-report_field_sync = search (hit_sync, pair_sync, crosses, sendable) depth 60 fits 20000
+pub tally_field_sync : IsSync (Tally.the_field).row
+tally_field_sync = search (hit_field_sync, crosses, sendable) depth 60 fits 20000
 
-pub report_sync : IsSync BlockReport.the_row
-report_sync = search (report_field_sync, crosses, sendable) depth 60 fits 20000
+pub tally_sync : IsSync Tally.the_row
+tally_sync = search (tally_field_sync, crosses, sendable) depth 60 fits 20000
 
-pub work_field_send : IsSend (Work.the_field).row
-work_field_send = search (unit_field_send, report_send, crosses, sendable) depth 60 fits 20000
+pub brief_field_send : IsSend (Brief.the_field).row
+brief_field_send = search (unit_field_send, tally_send, pair_send, crosses, sendable) depth 60 fits 20000
 
-pub work_send : IsSend Work.the_row
-work_send = search (work_field_send, crosses, sendable) depth 60 fits 20000
+pub brief_send : IsSend Brief.the_row
+brief_send = search (brief_field_send, crosses, sendable) depth 60 fits 20000
 
-pub work_field_sync : IsSync (Work.the_field).row
-work_field_sync = search (unit_field_sync, report_sync, crosses, sendable) depth 60 fits 20000
+pub brief_field_sync : IsSync (Brief.the_field).row
+brief_field_sync = search (unit_field_sync, tally_sync, pair_sync, crosses, sendable) depth 60 fits 20000
 
-pub work_sync : IsSync Work.the_row
-work_sync = search (work_field_sync, crosses, sendable) depth 60 fits 20000
+pub brief_sync : IsSync Brief.the_row
+brief_sync = search (brief_field_sync, crosses, sendable) depth 60 fits 20000
 
 -- misses, and the queue
 

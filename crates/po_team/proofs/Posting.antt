@@ -6,8 +6,8 @@ use Rattle.po_model.specs.declared.pair.Pair.{Pair}
 use Rattle.po_model.specs.Pairs.{PlainPair, pair_of}
 use Rattle.po_queue.specs.Passes.{QueueId, PassView}
 use Rattle.po_rule.specs.Posts.{RoseBy}
-use Rattle.po_crew.specs.declared.unit.Work.{Work}
 use Rattle.po_crew.specs.Posted.{ArePosted, taken_of}
+use Rattle.po_tally.specs.declared.brief.Brief.{Brief}
 use Rattle.po_team.specs.Ways.{PostHome, PostView, home_of, RemembersFull}
 use Rattle.po_team.specs.Works.{IsPosting, Puts, taken_in, dropped_in}
 
@@ -41,17 +41,17 @@ rises (suc d) e f n g h some = h (omega (arith, g (omega arith)))
 
 module _ {T : Type 0} where
   -- one unit more
-  pub posting_more : (queue : QueueId) (p q : PassView T) (fulls now : ℕ) (done : List Work) (w : Work)
-      → IsPosting queue p fulls (taken_in done) (dropped_in done) → Puts p fulls q now w.taken w.dropped
-      → IsPosting queue q now (taken_in (done ++ w ∷ [])) (dropped_in (done ++ w ∷ []))
-  posting_more queue p q fulls now done w h g =
-      let taken = sum_by_push (λ (x : Work). x.taken) done w in
-      let dropped = sum_by_push (λ (x : Work). x.dropped) done w in
+  pub posting_more : (queue : QueueId) (p q : PassView T) (fulls now : ℕ) (done : List Brief) (b : Brief)
+      → IsPosting queue p fulls (taken_in done) (dropped_in done) → Puts p fulls q now b.taken b.dropped
+      → IsPosting queue q now (taken_in (done ++ b ∷ [])) (dropped_in (done ++ b ∷ []))
+  posting_more queue p q fulls now done b h g =
+      let taken = sum_by_push (λ (x : Brief). x.taken) done b in
+      let dropped = sum_by_push (λ (x : Brief). x.dropped) done b in
       record {
         queue_is = g.queue ∙ h.queue_is;
         part = g.parts ∙ h.part;
         takes = g.takes ∙ h.takes;
-        put = g.put ∙ ap (λ n. n + w.taken) h.put ∙ sym taken;
-        rose = λ some. rises (dropped_in done) w.dropped fulls now h.rose g.rose (omega (arith, some, dropped));
+        put = g.put ∙ ap (λ n. n + b.taken) h.put ∙ sym taken;
+        rose = λ some. rises (dropped_in done) b.dropped fulls now h.rose g.rose (omega (arith, some, dropped));
         full = g.full;
       }

@@ -11,6 +11,8 @@ use Rattle.po_queue.specs.Passes.{QueueId, PassView}
 use Rattle.po_slow.specs.Passes.{IsSlowedUnit}
 use Rattle.po_crew.specs.declared.unit.Work.{Work}
 use Rattle.po_crew.specs.Units.{HasPassed, misses_in, tries_in}
+use Rattle.po_tally.specs.declared.brief.Brief.{Brief}
+use Rattle.po_tally.specs.Briefs.{IsBriefOf}
 
 -- what slow combination makes of a unit, with a report of each block that was scanned, each by rules that begin with
 -- what the worker was told of, or by none; each miss was put or dropped
@@ -20,23 +22,28 @@ pub record IsWorkBy (m : Machine) (told : List PlainRule) (u : PlainUnit) (w : W
   pub posted : w.taken + w.dropped ≡ length (misses_in w.reports.items)
 
 -- how many misses the queue took, and how many it didn't
-abbrev pub taken_in : List Work → ℕ
-taken_in works = sum_by (λ w. w.taken) works
+abbrev pub taken_in : List Brief → ℕ
+taken_in briefs = sum_by (λ b. b.taken) briefs
 
-abbrev pub dropped_in : List Work → ℕ
-dropped_in works = sum_by (λ w. w.dropped) works
+abbrev pub dropped_in : List Brief → ℕ
+dropped_in briefs = sum_by (λ b. b.dropped) briefs
 
 -- the work is that of the unit of this index, by a worker that was told of these rules
 abbrev pub GivesBy : Machine → List UnitCode → List PlainRule → ℕ → Work → Type 0
 GivesBy m codes told index w = (u : UnitCode) × (slice_get codes index ≡ Some u) × IsWorkBy m told (unit_of u) w
 
-abbrev pub GivesAt : Machine → List UnitCode → ℕ → Work → Type 0
-GivesAt m codes index w = (told : List PlainRule) × GivesBy m codes told index w
+-- the brief is that of such a work
+abbrev pub IsBriefBy : Machine → List UnitCode → List PlainRule → ℕ → Brief → Type 0
+IsBriefBy m codes told index b = (w : Work) × GivesBy m codes told index w × IsBriefOf w b
 
--- these are the works of these codes, one for each, in their order
-pub record AreWorksOf (m : Machine) (codes : List UnitCode) (works : List Work) : Type 0 where
-  pub count : length works ≡ length codes
-  pub each : (i : ℕ) (w : Work) → slice_get works i ≡ Some w → GivesAt m codes i w
+-- by a worker that was told of some rules
+abbrev pub GivesAt : Machine → List UnitCode → ℕ → Brief → Type 0
+GivesAt m codes index b = (told : List PlainRule) × IsBriefBy m codes told index b
+
+-- these are the briefs of these codes, one for each, in their order
+pub record AreWorksOf (m : Machine) (codes : List UnitCode) (briefs : List Brief) : Type 0 where
+  pub count : length briefs ≡ length codes
+  pub each : (i : ℕ) (b : Brief) → slice_get briefs i ≡ Some b → GivesAt m codes i b
 
 module _ {T : Type 0} where
   -- so many items more were put with a pass; where an item was dropped the queue was full, and that was counted

@@ -12,12 +12,12 @@ ghost use Rattle.po_team.specs.Works.{AreWorksOf, HasPosted, taken_in, dropped_i
 use crate::learners::{LearnerSeat, Learners};
 use crate::taught::Taught;
 use crate::workers::{WorkerSeat, Workers};
-use po_crew::Work;
 use po_model::{Machine, UnitCode};
 use po_pool::{Bell, Gate, Ran, run_all};
 use po_queue::{Pass, Posts};
 use po_rule::{Miss, Table};
 use po_store::{Edition, StoreName};
+use po_tally::Brief;
 use po_word::{OutOfMemory, push};
 use std::alloc::Global;
 use std::sync::ledger::Share;
@@ -28,7 +28,7 @@ use std::thread::Threads;
 #[derive(Drop)]
 pub struct Ended<L: StoreName> {
     /// What the units gave, in their order.
-    pub works: Vec<Work>,
+    pub works: Vec<Brief>,
     /// The passes of all workers, and behind them those of all learners.
     pub passes: Vec<Pass<Miss>>,
     /// The learners' shares of the count.
@@ -61,7 +61,7 @@ fn run<
     taught: &Mutex<Taught<V, T, L, R>>,
     workers: Vec<WorkerSeat<T, L>>,
     learners: Vec<LearnerSeat<L>>,
-) -> Result<Ran<Work, WorkerSeat<T, L>, LearnerSeat<L>>, OutOfMemory>
+) -> Result<Ran<Brief, WorkerSeat<T, L>, LearnerSeat<L>>, OutOfMemory>
     requires named { arc_value machine.now ≡ L.machine }
     requires described { IsMachine (arc_value machine.now) }
     requires formed { All (λ u. IsFormedCode (code_of u.code)) codes.now }

@@ -6,7 +6,7 @@ ghost use Rattle.po_model.specs.Blocks.{code_of};
 ghost use Rattle.po_model.specs.Machines.{IsMachine};
 ghost use Rattle.po_model.specs.UnitCodes.{unit_of, IsFormedCode};
 ghost use Rattle.po_store.specs.Published.{plain};
-ghost use Rattle.po_team.specs.Works.{GivesAt, GivesBy, HasPosted, IsWorkBy, Puts, taken_in, dropped_in};
+ghost use Rattle.po_team.specs.Works.{GivesAt, HasPosted, IsBriefBy, IsWorkBy, Puts, taken_in, dropped_in};
 
 use crate::copy::copy_unit;
 use crate::outbox::Outbox;
@@ -18,6 +18,7 @@ use po_pool::{Bell, Gate, Job, Place};
 use po_queue::{Pass, Posts};
 use po_rule::{Miss, Table};
 use po_store::{Edition, Note, StoreName};
+use po_tally::{Brief, shorten};
 use po_word::OutOfMemory;
 use std::alloc::Global;
 use std::marker::Brand;
@@ -63,6 +64,15 @@ pub struct Workers<
 #[derive(Drop)]
 struct Back<T: Table + Drop, L: StoreName> {
     work: Work,
+    way: Way<T, L>,
+    pass: Pass<Miss>,
+    fulls: u64,
+}
+
+/// The brief of what a unit gave, and what the seat gets back.
+#[derive(Drop)]
+struct Brought<T: Table + Drop, L: StoreName> {
+    brief: Brief,
     way: Way<T, L>,
     pass: Pass<Miss>,
     fulls: u64,
@@ -193,7 +203,7 @@ impl<'a, V: Edition<T, L>, T: Table + Drop, L: StoreName, R: Wait + Drop, W: Wai
         pass: Pass<Miss>,
         fulls: u64,
         index: u32,
-    ) -> Result<Back<T, L>, OutOfMemory>
+    ) -> Result<Brought<T, L>, OutOfMemory>
         requires index { index < length self.now.codes.now }
         requires described { IsMachine self.now.machine.now }
         requires formed { All (λ u. IsFormedCode (code_of u.code)) self.now.codes.now }
@@ -201,15 +211,27 @@ impl<'a, V: Edition<T, L>, T: Table + Drop, L: StoreName, R: Wait + Drop, W: Wai
         requires empty { T.rules empty.now ≡ [] }
         requires queue { pass.queue ≡ self.now.posts.now.queue }
         requires full { 0 < fulls → pass.met_full ≡ true }
-        ensures work { IfOk result (λ b. (told : _) × IsPrefix (plain note) told
-            × GivesBy self.now.machine.now self.now.codes.now told index b.work) }
-        ensures puts { IfOk result (λ b. Puts pass fulls b.pass b.fulls b.work.taken b.work.dropped) }
+        ensures brief { IfOk result (λ b. (told : _) × IsPrefix (plain note) told
+            × IsBriefBy self.now.machine.now self.now.codes.now told index b.brief) }
+        ensures puts { IfOk result (λ b. Puts pass fulls b.pass b.fulls b.brief.taken b.brief.dropped) }
     {
         let way = way.told(note);
         let post = Outbox::new(self.rt, self.posts, self.bell, pass, fulls);
         let code = self.code_of(alloc, index)?;
         let back = compile(alloc, self.machine, way, empty, post, code)?;
-        Ok(back)
+        let Back {
+            work,
+            way,
+            pass,
+            fulls,
+        } = back;
+        let brief = shorten(alloc, work)?;
+        Ok(Brought {
+            brief,
+            way,
+            pass,
+            fulls,
+        })
     }
 }
 
@@ -224,7 +246,7 @@ impl<
 > Job for Workers<'a, V, T, L, R, W, G> {
     type Seat = WorkerSeat<T, L>;
 
-    type Out = Work;
+    type Out = Brief;
 
     ghost count = { λ w. length w.codes.now };
 
@@ -240,9 +262,9 @@ impl<
         alloc: Global,
         seat: &mut WorkerSeat<T, L>,
         _place: u32,
-        _done: &[Work],
+        _done: &[Brief],
         index: u32,
-    ) -> Result<Work, OutOfMemory> {
+    ) -> Result<Brief, OutOfMemory> {
         self.gate.at(Place::UnitStart(index));
         let note = published(self.rt, self.taught);
         let Some(way) = seat.way.take() else {
@@ -251,8 +273,8 @@ impl<
         let Some(pass) = seat.pass.take() else {
             unreachable!()
         };
-        let Back {
-            work,
+        let Brought {
+            brief,
             way,
             pass,
             fulls,
@@ -261,6 +283,6 @@ impl<
         seat.pass = Some(pass);
         seat.fulls = fulls;
         self.gate.at(Place::UnitEnd(index));
-        Ok(work)
+        Ok(brief)
     }
 }

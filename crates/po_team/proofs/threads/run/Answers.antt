@@ -16,14 +16,14 @@ use Rattle.po_team.specs.Seats.{HasLearned}
 use Rattle.po_team.specs.Works.{GivesAt, HasPosted, taken_in, dropped_in}
 use Rattle.po_team.proofs.Backs.{workers_back}
 use Rattle.po_team.proofs.Seating.{all_of_each, each_of_all}
-use Rattle.po_team.proofs.Crossing.{learner_seat_send, learners_sync, work_send, worker_seat_send, workers_sync}
+use Rattle.po_team.proofs.Crossing.{brief_send, learner_seat_send, learners_sync, worker_seat_send, workers_sync}
 use Rattle.po_team.proofs.threads.run.Goals as goal
 
 pub run_all-requires-send-J-Seat : goal.run_all-requires-send-J-Seat
 run_all-requires-send-J-Seat g c κs within = search (worker_seat_send, crosses, sendable) depth 60 fits 20000
 
 pub run_all-requires-send-J-Out : goal.run_all-requires-send-J-Out
-run_all-requires-send-J-Out g c κs within = search (work_send, crosses, sendable) depth 60 fits 20000
+run_all-requires-send-J-Out g c κs within = search (brief_send, crosses, sendable) depth 60 fits 20000
 
 pub run_all-requires-send-S-Seat : goal.run_all-requires-send-S-Seat
 run_all-requires-send-S-Seat g c κs within = search (learner_seat_send, crosses, sendable) depth 60 fits 20000
