@@ -93,11 +93,7 @@ fn append(misses: &mut Vec<Pair>, others: Vec<Pair>) -> Result<(), OutOfMemory>
 }
 
 /// One report of all tries: a hit of each rule that is published, and the misses, with those that were hits.
-fn report_of(
-    hits: Vec<Hit>,
-    misses: Vec<Pair>,
-    lost: Vec<Pair>,
-) -> Result<BlockReport, OutOfMemory>
+fn report_of(hits: Vec<Hit>, misses: Vec<Pair>, lost: Vec<Pair>) -> Result<BlockReport, OutOfMemory>
     ensures used { IfOk result (λ r. r.used.items ≡ hits.items) }
     ensures misses { IfOk result (λ r. r.misses.items ≡ misses.items ++ lost.items) }
 {

@@ -1,4 +1,4 @@
-//! The briefs of all units, taken apart.
+//! The briefs of all units, taken together.
 ghost use Rattle.std.specs.Prelude.{◌≡◌, ◌+◌, ◌++◌, ◌∷◌, [], IfOk, OnOk};
 ghost use Rattle.po_tally.specs.Tallies.{AreJoined};
 ghost use Rattle.po_team.specs.Works.{taken_in, dropped_in};
