@@ -12,13 +12,14 @@ use Rattle.po_compile.specs.Statuses.{IsDoneOrMemory}
 use Rattle.po_compile.specs.declared.status.Status.{Status}
 use Rattle.po_compile.specs.declared.status.Status.TheVariants as status
 
--- a text is read as a machine
-abbrev pub BeginsWith : List ℕ → Machine → Type 0
-BeginsWith text m = (behind : Spot) × (machine_in text ≡ Ok (m, behind))
+-- the line on so many sample units of a seed, on the machine that a text begins with
+abbrev pub IsLineOn : List ℕ → ℕ → ℕ → List ℕ → Type 0
+IsLineOn text seed units line = (m : Machine) × (behind : Spot) × (machine_in text ≡ Ok (m, behind))
+    × IsSummary m seed units line
 
 -- the line on so many sample units of a seed, on the machine `tiny`
 abbrev pub IsLineOf : ℕ → ℕ → List ℕ → Type 0
-IsLineOf seed units line = (tiny : Machine) × BeginsWith TINY.now tiny × IsSummary tiny seed units line
+IsLineOf = IsLineOn TINY.now
 
 -- the sink took the line, or failed when it had taken so many bytes of it, or memory was refused
 abbrev pub Ends : ℕ → ℕ → Status → ℕ → ℕ → Option (List ℕ) → Option (List ℕ) → Type 0
