@@ -1,4 +1,4 @@
--- What reports tell of, and what the works of all units hold together
+-- What briefs tell of, and what those of all units hold together
 pub mod Told
 -- Hits that are looked up once more
 pub mod Relooked
