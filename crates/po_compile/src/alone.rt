@@ -4,7 +4,8 @@ ghost use Rattle.po_ir.specs.Units.{IsUnit};
 ghost use Rattle.po_model.specs.Machines.{IsMachine};
 ghost use Rattle.po_model.specs.Naive.{naive};
 ghost use Rattle.po_model.specs.UnitCodes.{PlainUnit, unit_of, IsUnitCode};
-ghost use Rattle.po_compile.specs.Modes.{mode_alone, IsCodeIn};
+ghost use Rattle.po_compile.specs.declared.mode.Mode.TheVariants.{Naive, Slow};
+ghost use Rattle.po_compile.specs.Modes.{mode_alone};
 ghost use Rattle.po_compile.specs.Output.{naive_codes};
 ghost use Rattle.po_compile.specs.Steps.{Checked};
 ghost use Rattle.po_compile.specs.Turns.{IsTarget, AreDone, CheckedUnit};
@@ -17,7 +18,6 @@ use po_expand::{CheckRefusal, check_by, expand};
 use po_ir::Unit;
 use po_model::{Steps, UnitCode};
 use po_slow::slow_unit_by;
-use po_word::OutOfMemory;
 use std::alloc::Global;
 use std::marker::Brand;
 use std::sync::ledger::{Blank, Ledger};
@@ -38,29 +38,56 @@ fn check_unit(alloc: Global, target: &Target, unit: u32, code: &UnitCode) -> Res
     }
 }
 
-/// What such a mode makes of the naive code of a unit.
-fn code_alone<L: Ledger>(
+/// Takes a unit in `naive` from its operations to its assembly. The entries are found while it is written; where one
+/// isn't seen to fit, the unit's code is made once more, and checked.
+fn take_naive(
     alloc: Global,
-    alone: Alone,
     target: &Target,
-    code: UnitCode,
-    steps: &mut Steps<L>,
-) -> Result<UnitCode, OutOfMemory>
+    number: u32,
+    unit: &Unit,
+    work: &mut Work,
+) -> Result<(), Refusal>
     requires machine { IsMachine target.now.machine }
     requires target { IsTarget target.now }
-    requires formed { IsUnitCode (unit_of code) }
-    ensures { IfOk result (λ made. IsCodeIn (mode_alone alone) target.now.machine (unit_of code) (unit_of made)) }
+    requires unit { IsUnit unit.now }
+    ensures done { (us : List PlainUnit) → length us ≡ number → AreDone Naive target.now.machine us work.old
+        → OnOk result (AreDone Naive target.now.machine (us ++ naive unit.now ∷ []) work.new) }
+    ensures refused { IfErr result (λ r. CheckedUnit target.now.machine number (naive unit.now) (Err r)) }
 {
-    match alone {
-        Alone::Naive => Ok(code),
-        Alone::Slow => {
-            let slowed = slow_unit_by(alloc, &target.machine, &target.index, code, steps)?;
-            Ok(slowed)
-        }
+    let code = expand(alloc, unit)?;
+    let fits = work.add(alloc, target, number, code)?;
+    if fits {
+        return Ok(());
     }
+    let again = expand(alloc, unit)?;
+    check_unit(alloc, target, number, &again)?;
+    Ok(())
 }
 
-/// Takes a unit from its operations to its assembly. Behind a crowd it is checked, and its code is made.
+/// Takes a unit in `slow` from its operations to its assembly. Behind a crowd it is checked, and its code is made.
+fn take_slow<L: Ledger>(
+    alloc: Global,
+    target: &Target,
+    number: u32,
+    unit: &Unit,
+    steps: &mut Steps<L>,
+    work: &mut Work,
+) -> Result<(), Refusal>
+    requires machine { IsMachine target.now.machine }
+    requires target { IsTarget target.now }
+    requires unit { IsUnit unit.now }
+    ensures done { (us : List PlainUnit) → length us ≡ number → AreDone Slow target.now.machine us work.old
+        → OnOk result (AreDone Slow target.now.machine (us ++ naive unit.now ∷ []) work.new) }
+    ensures refused { IfErr result (λ r. CheckedUnit target.now.machine number (naive unit.now) (Err r)) }
+{
+    let code = expand(alloc, unit)?;
+    check_unit(alloc, target, number, &code)?;
+    let made = slow_unit_by(alloc, &target.machine, &target.index, code, steps)?;
+    work.add(alloc, target, number, made)?;
+    Ok(())
+}
+
+/// Takes a unit from its operations to its assembly.
 fn take<L: Ledger>(
     alloc: Global,
     alone: Alone,
@@ -78,11 +105,10 @@ fn take<L: Ledger>(
         → OnOk result (AreDone (mode_alone alone) target.now.machine (us ++ naive unit.now ∷ []) work.new) }
     ensures refused { IfErr result (λ r. CheckedUnit target.now.machine number (naive unit.now) (Err r)) }
 {
-    let code = expand(alloc, unit)?;
-    check_unit(alloc, target, number, &code)?;
-    let made = code_alone(alloc, alone, target, code, steps)?;
-    work.add(alloc, target, number, made)?;
-    Ok(())
+    match alone {
+        Alone::Naive => take_naive(alloc, target, number, unit, work),
+        Alone::Slow => take_slow(alloc, target, number, unit, steps, work),
+    }
 }
 
 /// Takes all units, one after the other, with a count of all the pairs that are tried.

@@ -1,7 +1,8 @@
 //! What has become of the units so far: their assembly, or the first of them that is crowded.
-ghost use Rattle.std.specs.Prelude.{◌≡◌, ◌++◌, ◌∷◌, [], None, List, length, OnOk};
+ghost use Rattle.std.specs.Prelude.{◌≡◌, ◌++◌, ◌∷◌, [], None, List, length, true, IfOk, OnOk};
 ghost use Rattle.po_model.specs.Machines.{IsMachine};
 ghost use Rattle.po_model.specs.UnitCodes.{PlainUnit, unit_of, IsUnitCode};
+ghost use Rattle.po_compile.specs.Output.{AllFit};
 ghost use Rattle.po_compile.specs.Turns.{IsTarget, HaveCome};
 
 use crate::target::Target;
@@ -39,24 +40,26 @@ pub fn no_work(alloc: Global) -> Work
 }
 
 impl Work {
-    /// Places the code of a unit and writes it, or notes its crowd.
+    /// Places the code of a unit and writes it, or notes its crowd. Says whether each of its instructions was seen to fit
+    /// an entry.
     fn place(
         &mut self,
         alloc: Global,
         target: &Target,
         unit: u32,
         code: UnitCode,
-    ) -> Result<(), OutOfMemory>
+    ) -> Result<bool, OutOfMemory>
         requires machine { IsMachine target.now.machine }
         requires target { IsTarget target.now }
         requires formed { IsUnitCode (unit_of code) }
-        ensures { (made : List PlainUnit) → length made ≡ unit
+        ensures come { (made : List PlainUnit) → length made ≡ unit
             → self.old.crowd ≡ None → HaveCome target.now.machine made self.old
             → OnOk result (HaveCome target.now.machine (made ++ unit_of code ∷ []) self.new) }
+        ensures fits { IfOk result (λ fits. fits ≡ true → AllFit target.now.machine (unit_of code)) }
     {
         match assign(alloc, &target.machine, code) {
             Ok(placed) => {
-                emit_by(
+                let fits = emit_by(
                     alloc,
                     &target.machine,
                     &target.index,
@@ -64,7 +67,7 @@ impl Work {
                     &placed,
                     &mut self.out,
                 )?;
-                Ok(())
+                Ok(fits)
             }
             Err(AssignRefusal::TooFew { point, needed }) => {
                 self.crowd = Some(Crowd {
@@ -72,28 +75,30 @@ impl Work {
                     point,
                     needed,
                 });
-                Ok(())
+                Ok(false)
             }
             Err(AssignRefusal::OutOfMemory) => Err(OutOfMemory),
         }
     }
 
-    /// Takes in the code of the next unit: behind a crowd it is given back as it came.
+    /// Takes in the code of the next unit: behind a crowd it is given back as it came. Says whether each of its
+    /// instructions was seen to fit an entry.
     pub fn add(
         &mut self,
         alloc: Global,
         target: &Target,
         unit: u32,
         code: UnitCode,
-    ) -> Result<(), OutOfMemory>
+    ) -> Result<bool, OutOfMemory>
         requires machine { IsMachine target.now.machine }
         requires target { IsTarget target.now }
         requires formed { IsUnitCode (unit_of code) }
-        ensures { (made : List PlainUnit) → length made ≡ unit → HaveCome target.now.machine made self.old
+        ensures come { (made : List PlainUnit) → length made ≡ unit → HaveCome target.now.machine made self.old
             → OnOk result (HaveCome target.now.machine (made ++ unit_of code ∷ []) self.new) }
+        ensures fits { IfOk result (λ fits. fits ≡ true → AllFit target.now.machine (unit_of code)) }
     {
         if self.crowd.is_some() {
-            return Ok(());
+            return Ok(false);
         }
         self.place(alloc, target, unit, code)
     }

@@ -1,3 +1,4 @@
 pub mod Regs
 pub mod Texts
 pub mod Templates
+pub mod Fits

@@ -1,5 +1,5 @@
 //! The lines of instructions and of blocks.
-ghost use Rattle.std.specs.Prelude.{◌≡◌, ◌++◌, ◌<◌, ◌^◌, ℕ, Bool, OnOk, OnErr, length, codes};
+ghost use Rattle.std.specs.Prelude.{◌≡◌, ◌++◌, ◌<◌, ◌^◌, ℕ, Bool, true, OnOk, OnErr, IfOk, length, codes, is_some};
 ghost use Rattle.std.specs.Io.{StartsWith};
 ghost use Rattle.po_term.specs.Moves.{moves_of, instrs_of};
 ghost use Rattle.po_model.specs.Fit.{fit};
@@ -7,6 +7,7 @@ ghost use Rattle.po_model.specs.UnitCodes.{unit_of};
 ghost use Rattle.po_model.specs.Assembly.{label_line, line_of, lines_from};
 ghost use Rattle.po_recog.specs.Indexes.{IsIndexOf};
 ghost use Rattle.po_live.specs.Flags.{flag_at};
+ghost use Rattle.po_emit.specs.Fits.{FitFrom};
 ghost use Rattle.po_emit.specs.Regs.{machine_at};
 ghost use Rattle.po_emit.specs.Texts.{line_with};
 ghost use Rattle.po_emit.specs.Templates.{AreTemplatesOf};
@@ -66,7 +67,7 @@ fn push_entry(
     }
 }
 
-/// Writes the line of an instruction. Nothing where no entry fits it.
+/// Writes the line of an instruction, and says whether an entry fits it. Nothing where none does.
 fn push_line(
     m: &Machine,
     index: &Index,
@@ -76,19 +77,30 @@ fn push_line(
     xs: &[Transfer],
     cc_live: bool,
     out: &mut Vec<u8>,
-) -> Result<(), OutOfMemory>
+) -> Result<bool, OutOfMemory>
     requires entries { length m.now.entries < 2 ^ 32 }
     requires index { IsIndexOf m.now index.now }
     requires templates { AreTemplatesOf m.now templates.now }
     ensures ok { OnOk result (out.new.items ≡ out.old.items
         ++ line_of m.now (machine_at regs.now) (unit_of u.now) (fit m.now cc_live (moves_of xs.now))) }
+    ensures fits { IfOk result (λ fits. fits ≡ is_some (fit m.now cc_live (moves_of xs.now))) }
     ensures err { OnErr result (StartsWith out.new.items out.old.items) }
 {
     let mut slots = [None; 10];
     match recognise_in(m, index, xs, cc_live, &mut slots) {
-        Some(entry) => push_entry(m, templates, regs, u, entry, &slots, out),
-        None => Ok(()),
+        Some(entry) => {
+            push_entry(m, templates, regs, u, entry, &slots, out)?;
+            Ok(true)
+        }
+        None => Ok(false),
     }
+}
+
+/// Whether both are so.
+pub fn both(one: bool, other: bool) -> bool
+    ensures { result ≡ true → (one ≡ true) × (other ≡ true) }
+{
+    if one { other } else { false }
 }
 
 /// Whether `cc` is live after the instruction of that number.
@@ -101,7 +113,7 @@ fn cc_live_at(lives: &[bool], i: usize) -> bool
     }
 }
 
-/// Writes the lines of a block's instructions, with what is live after each.
+/// Writes the lines of a block's instructions, with what is live after each, and says whether an entry fits each.
 pub fn push_lines(
     m: &Machine,
     index: &Index,
@@ -111,17 +123,19 @@ pub fn push_lines(
     xs: &[Instr],
     lives: &[bool],
     out: &mut Vec<u8>,
-) -> Result<(), OutOfMemory>
+) -> Result<bool, OutOfMemory>
     requires entries { length m.now.entries < 2 ^ 32 }
     requires index { IsIndexOf m.now index.now }
     requires templates { AreTemplatesOf m.now templates.now }
     ensures ok { (live : ℕ → ℕ → Bool) (b : ℕ) → ((i : ℕ) → live b i ≡ flag_at lives.now i) →
         OnOk result (out.new.items ≡ out.old.items
         ++ lines_from m.now (machine_at regs.now) (unit_of u.now) live b 0 (instrs_of xs.now)) }
+    ensures fits { IfOk result (λ fits. fits ≡ true → FitFrom m.now lives.now 0 (instrs_of xs.now)) }
     ensures err { OnErr result (StartsWith out.new.items out.old.items) }
 {
+    let mut all = true;
     for (i, x) in xs.iter().enumerate() {
-        push_line(
+        let fits = push_line(
             m,
             index,
             templates,
@@ -131,6 +145,7 @@ pub fn push_lines(
             cc_live_at(lives, i),
             out,
         )?;
+        all = both(all, fits);
     }
-    Ok(())
+    Ok(all)
 }

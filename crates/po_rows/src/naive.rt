@@ -243,7 +243,7 @@ const FIVE_VALUES: &str =
     "unit f\ncon 1\ncon 2\ncon 3\ncon 4\ncon 5\nadd\nadd\nadd\nadd\nret\nend\n";
 
 /// An input without a fault that doesn't compile: its status and what is told. Nothing is written.
-const REFUSED: [([&str; 3], Status, &str); 9] = [
+const REFUSED: [([&str; 3], Status, &str); 10] = [
     (
         [HEAD, SMALL_WITHOUT_ADD, LOAD_AND_ADD],
         Status::Unrecognised {
@@ -310,17 +310,27 @@ const REFUSED: [([&str; 3], Status, &str); 9] = [
     ),
     // Behind a crowded unit the others are recognised all the same.
     (
-        [
-            TINY,
-            FIVE_VALUES,
-            "unit g\ncon 2\ncon 3\nmul\nret\nend\n",
-        ],
+        [TINY, FIVE_VALUES, "unit g\ncon 2\ncon 3\nmul\nret\nend\n"],
         Status::Unrecognised {
             unit: 1,
             block: 0,
             index: 2,
         },
         "po: unit 1, block 0, instruction 2: not recognised\n",
+    ),
+    // A unit that is crowded and has an instruction that no entry fits.
+    (
+        [
+            TINY,
+            "unit f\ncon 1\ncon 2\ncon 3\ncon 4\ncon 5\nmul\nadd\nadd\nadd\nret\nend\n",
+            "",
+        ],
+        Status::Unrecognised {
+            unit: 0,
+            block: 0,
+            index: 5,
+        },
+        "po: unit 0, block 0, instruction 5: not recognised\n",
     ),
     // Of two crowded units the first counts, though the second needs more registers.
     (

@@ -8,6 +8,8 @@ use Rattle.po_model.specs.UnitCodes.{unit_of}
 use Rattle.po_model.specs.Assembly.{blocks_from, IsAssembly}
 use Rattle.po_live.specs.Flags.{flag_at, flags_at}
 use Rattle.po_emit.specs.Regs.{machine_at}
+use Rattle.po_emit.specs.Fits.{FitBlocksFrom}
+use Rattle.po_emit.proofs.Fitting.{recognised, if_ok_more}
 use Rattle.po_emit.proofs.Starts.{starts_less}
 use Rattle.po_emit.proofs.unit.push_text.Goals as goal
 
@@ -39,6 +41,16 @@ returns-clause-ok c =
           ∙ append_assoc old (u.name ++ codes ":\n") blocks,
     ))
     c.push_blocks.ensures.ok
+
+pub returns-clause-fits : goal.returns-clause-fits
+returns-clause-fits c =
+    let u = unit_of c.args.p.now.unit in
+    let lives = c.in_ok-lives.lives.after.items in
+    let tells : TellsCc u.code (λ b i. flag_at (flags_at lives b) i) = c.in_ok-lives.ensures.live in
+    if_ok_more c.push_blocks.result
+    (λ fits h all. recognised c.args.m.now lives u.code tells
+    (subst (λ (ls : List (Vec Bool)). FitBlocksFrom c.args.m.now ls 0 u.code) c.deref-3.ensures.value (h all)))
+    c.push_blocks.ensures.fits
 
 pub returns-clause-err : goal.returns-clause-err
 returns-clause-err c =
