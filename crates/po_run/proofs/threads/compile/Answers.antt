@@ -6,8 +6,8 @@ use Rattle.po_compile.specs.declared.mode.Mode.TheVariants.{Opt}
 use Rattle.po_compile.specs.Modes.{IsCodeIn}
 use Rattle.po_compile.specs.Rules.{AreRulesIn}
 use Rattle.po_compile.specs.Steps.{units_of}
-use Rattle.po_compile.proofs.Slowed.{made_count, made_formed}
-use Rattle.po_run.proofs.Making.{IsFormedUnit, formed_codes}
+use Rattle.po_compile.proofs.Slowed.{made_formed}
+use Rattle.po_run.proofs.Making.{IsFormedUnit, formed_codes, made_count}
 use Rattle.po_run.proofs.threads.compile.Goals as goal
 
 pub opt_all-requires-clause-formed : goal.opt_all-requires-clause-formed
@@ -28,7 +28,7 @@ pub finish-requires-clause-few : goal.finish-requires-clause-few
 finish-requires-clause-few g c =
     let m = arc_value c.in-Ok.begun.machine in
     let many : length c.in_ok-opted.opted.codes.items ≡ length c.deref.result.now =
-    made_count Opt m c.deref.result.now c.in_ok-opted.opted.codes.items c.in_ok-opted.ensures.codes in
+    made_count m c.deref.result.now c.in_ok-opted.opted.codes.items c.in_ok-opted.ensures.codes in
     let same : length c.deref.result.now ≡ length c.in-Ok.begun.codes.items = ap length c.deref.ensures.value in
     let few : length c.in-Ok.begun.codes.items ≤ 65536 = c.in-Ok.ensures.few in omega arith
 
